@@ -1,0 +1,5 @@
+pub mod RingSolver
+pub mod OrderedRing
+pub mod PlaneSolver
+pub mod Integers
+pub mod Irrational

@@ -1,0 +1,3 @@
+pub mod Arithmetic
+pub mod Plane
+pub mod Number
