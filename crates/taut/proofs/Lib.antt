@@ -1,0 +1,2 @@
+pub mod Veer
+pub mod Thread

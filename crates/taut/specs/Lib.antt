@@ -1,0 +1,5 @@
+pub mod Sleeve
+pub mod Fan
+pub mod TautString
+pub mod Lengths
+pub mod Funnel
