@@ -1,2 +1,3 @@
 pub mod Veer
 pub mod Thread
+pub mod IndexForm
