@@ -1,3 +1,5 @@
 pub mod Veer
 pub mod Thread
 pub mod IndexForm
+pub mod SwitchingLemma
+pub mod Shortness
