@@ -135,7 +135,7 @@ module _ (K : OrderedRing) (t : Side) where
   final-within r s [] sw = inl (nn-pos K (sw .0), nn-eq K (sym (self K t s)) (nn-nil K))
   final-within r s (q ∷ rs) sw = inr (final-within s q rs (sw .1))
 
-  out-of : (u r : Vec A) (rs : List (Vec A)) → Clear N t u r rs → Within N t u r rs → ⊥
+  pub out-of : (u r : Vec A) (rs : List (Vec A)) → Clear N t u r rs → Within N t u r rs → ⊥
   out-of u r [] cl w = elim w [ ]
   out-of u r (s ∷ rs) cl (inl i) = cl .0 i
   out-of u r (s ∷ rs) cl (inr w) = out-of u s rs (cl .1) w

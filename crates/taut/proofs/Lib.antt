@@ -6,3 +6,4 @@ pub mod Shortness
 pub mod Along
 pub mod FanLemma
 pub mod FanParts
+pub mod FanOrder

@@ -3,6 +3,8 @@
 -- Sector     a direction lies between two rays, or on one of them
 -- Clear      a direction lies in no sector between neighbours of the row
 -- Within     it lies in one of them
+-- origin     the step that goes nowhere
+-- opposite   the direction turned about
 -- Met        directions are met in their order, each in a sector after that of the one before
 -- Fan        rays that sweep, and do not come round to the first again: together they span less than a full turn
 -- Run        the rays of a run, the portals that share an end: the far ends after that of the first portal, and the vertex or end point after the run
@@ -12,7 +14,7 @@ use mathlib.Core.List.{List, [], _∷_}
 use mathlib.Core.Path.{_≡_}
 use mathlib.Core.Logic.{_⊎_}
 use Rattle.algebra.specs.Arithmetic.{Arithmetic, Nn}
-use Rattle.algebra.specs.Plane.{Vec, _⟶_ as _⇢_}
+use Rattle.algebra.specs.Plane.{Vec, less, _⟶_ as _⇢_}
 use Rattle.taut.specs.declared.Side.{Side}
 use Rattle.taut.specs.declared.Side.the-variants.{Left, Right}
 use Rattle.taut.specs.Sleeve.{other, Portal, end, veer, Keeps}
@@ -48,6 +50,12 @@ module _ (N : Arithmetic) (t : Side) where
 
 module _ (N : Arithmetic) where
   open Arithmetic N using (carrier as A)
+
+  abbrev pub origin : Vec A
+  origin = record { x = N .ops .nil; y = N .ops .nil }
+
+  abbrev pub opposite : Vec A → Vec A
+  opposite u = less (N .ops) origin u
 
   infix 73 _⟶_
   abbrev _⟶_ : Vec A → Vec A → Vec A
