@@ -3,11 +3,14 @@
 use mathlib.Core.Path.{_≡_, refl, sym, ap, _∙_}
 use mathlib.Core.Logic.{inl, inr}
 use Rattle.algebra.specs.Arithmetic.{Ops, OrderLaws, Arithmetic, Nn}
-use Rattle.algebra.specs.Plane.{Vec}
-use Rattle.algebra.proofs.RingSolver.{CommRing, _:+_, _:*_, _:=_, order, nil-mul, ring}
+use Rattle.algebra.specs.Plane.{Vec, _⊗_}
+use Rattle.algebra.proofs.RingSolver.{CommRing, :0, :1, _:+_, _:-_, _:*_, :-_, _:=_, order, nil-mul, neg-nil, ring}
 use Rattle.algebra.proofs.OrderedRing.{OrderedRing, base, pos-eq, nn-eq, nn-split, pos-cancel, nn-cancel, signs, nil-cancel}
+use Rattle.algebra.proofs.PlaneSolver.{same-vector}
 use Rattle.taut.specs.declared.Side.{Side}
+use Rattle.taut.specs.declared.Side.the-variants.{Left, Right}
 use Rattle.taut.specs.Sleeve.{veer}
+use Rattle.taut.specs.Fan.{origin}
 use Rattle.taut.proofs.Veer.{pluecker, between}
 
 module _ (K : OrderedRing) where
@@ -18,7 +21,7 @@ module _ (K : OrderedRing) where
   R = base K
 
   open Arithmetic N using (carrier as A, Pos)
-  open Ops (N .ops) using (nil as 𝟘, add as _+_, mul as _*_, neg as -_)
+  open Ops (N .ops) using (nil as 𝟘, one as 𝟙, add as _+_, mul as _*_, neg as -_)
   open OrderLaws (K .laws .order) using (pos-nil)
 
   infixl 65 _+_
@@ -51,3 +54,13 @@ module _ (K : OrderedRing) where
       relation : (t : Side) (h r l x : Vec A) → veer N t h r * veer N t x l + veer N t h l * veer N t r x + veer N t l r * veer N t h x ≡ 𝟘
       relation t h r l x =
           ring R 6 (λ a b c d e f. a :* b :+ c :* d :+ e :* f := a :* b :+ f :* e :+ c :* d) refl (veer N t h r) (veer N t x l) (veer N t h l) (veer N t r x) (veer N t l r) (veer N t h x) ∙ pluecker K t h x r l
+
+  -- no direction: it turns to no side of anything, and of the two axes least
+  pub axes : (t : Side) (u : Vec A) → ((x : Vec A) → veer N t x u ≡ 𝟘) → u ≡ origin N
+  unfolding _⊗_
+  axes Left u h = same-vector R
+      (ring R 2 (λ a b. a := :- (:0 :* b :- :1 :* a)) refl (u .x) (u .y) ∙ ap (N .ops .neg) (h (record { x = 𝟘; y = 𝟙 })) ∙ neg-nil R)
+      (ring R 2 (λ a b. b := :1 :* b :- :0 :* a) refl (u .x) (u .y) ∙ h (record { x = 𝟙; y = 𝟘 }))
+  axes Right u h = same-vector R
+      (ring R 2 (λ a b. a := a :* :1 :- b :* :0) refl (u .x) (u .y) ∙ h (record { x = 𝟘; y = 𝟙 }))
+      (ring R 2 (λ a b. b := :- (a :* :0 :- b :* :1)) refl (u .x) (u .y) ∙ ap (N .ops .neg) (h (record { x = 𝟙; y = 𝟘 })) ∙ neg-nil R)

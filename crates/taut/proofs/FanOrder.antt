@@ -1,38 +1,18 @@
 -- The order of directions in a fan. A direction that lies in one sector of a fan lies in no sector after the next (`once`).
 -- So a direction, its opposite and the direction again are not met in order (`not-again`): the opposite lies at least one sector further.
 -- It rests on the fan lemma, and on the bound for every ray (FanParts).
-use mathlib.Core.Path.{_≡_, refl, ap, _∙_}
+use mathlib.Core.Path.{_≡_}
 use mathlib.Core.List.{List, [], _∷_}
 use mathlib.Core.Logic.{inl, inr}
-use Rattle.algebra.specs.Arithmetic.{Ops, Arithmetic}
-use Rattle.algebra.specs.Plane.{Vec, _⊗_}
-use Rattle.algebra.proofs.RingSolver.{:0, :1, _:-_, _:*_, :-_, _:=_, neg-nil, ring}
-use Rattle.algebra.proofs.OrderedRing.{OrderedRing, base, nn-split}
-use Rattle.algebra.proofs.PlaneSolver.{same-vector}
+use Rattle.algebra.specs.Arithmetic.{Arithmetic}
+use Rattle.algebra.specs.Plane.{Vec}
+use Rattle.algebra.proofs.OrderedRing.{OrderedRing, nn-split}
 use Rattle.taut.specs.declared.Side.{Side}
-use Rattle.taut.specs.declared.Side.the-variants.{Left, Right}
 use Rattle.taut.specs.Sleeve.{veer}
 use Rattle.taut.specs.Fan.{Sector, Within, Met, Fan, origin}
-use Rattle.taut.proofs.Along.{along-both}
+use Rattle.taut.proofs.Along.{along-both, axes}
 use Rattle.taut.proofs.FanLemma.{first}
 use Rattle.taut.proofs.FanParts.{fan-tail, out-of, same-way}
-
-module _ (K : OrderedRing) where
-  abbrev N₀ : Arithmetic
-  N₀ = K .numbers
-
-  open Arithmetic N₀ using (carrier as A₀)
-  open Ops (N₀ .ops) using (nil as 𝟘₀, one as 𝟙₀)
-
-  -- against the two axes
-  axes : (t : Side) (u : Vec A₀) → ((x : Vec A₀) → veer N₀ t x u ≡ 𝟘₀) → u ≡ origin N₀
-  unfolding _⊗_
-  axes Left u h = same-vector (base K)
-      (ring (base K) 2 (λ a b. a := :- (:0 :* b :- :1 :* a)) refl (u .x) (u .y) ∙ ap (N₀ .ops .neg) (h (record { x = 𝟘₀; y = 𝟙₀ })) ∙ neg-nil (base K))
-      (ring (base K) 2 (λ a b. b := :1 :* b :- :0 :* a) refl (u .x) (u .y) ∙ h (record { x = 𝟙₀; y = 𝟘₀ }))
-  axes Right u h = same-vector (base K)
-      (ring (base K) 2 (λ a b. a := a :* :1 :- b :* :0) refl (u .x) (u .y) ∙ h (record { x = 𝟘₀; y = 𝟙₀ }))
-      (ring (base K) 2 (λ a b. b := :- (a :* :0 :- b :* :1)) refl (u .x) (u .y) ∙ ap (N₀ .ops .neg) (h (record { x = 𝟙₀; y = 𝟘₀ })) ∙ neg-nil (base K))
 
 module _ (K : OrderedRing) (t : Side) where
   abbrev N : Arithmetic

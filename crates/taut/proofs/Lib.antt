@@ -7,3 +7,7 @@ pub mod Along
 pub mod FanLemma
 pub mod FanParts
 pub mod FanOrder
+pub mod Parting
+pub mod Parted
+pub mod Common
+pub mod Uniqueness
