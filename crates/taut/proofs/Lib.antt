@@ -11,3 +11,4 @@ pub mod Parting
 pub mod Parted
 pub mod Common
 pub mod Uniqueness
+pub mod Settling

@@ -1,5 +1,6 @@
 -- The funnel of Lee and Preparata, on lists. It reads the portals from the last to the first; the apex is then on the end point's side.
 -- It asks for the sign of a turn of three points and for nothing else about coordinates.
+-- Signs     a sign function tells of every number whether it is positive, zero or negative
 -- bears     three points turn strictly to a side
 -- Funnel    two chains of vertices that meet at the apex, and the bends that are final
 --           near: from the present portal's near end to the apex; far: from the apex to its far end; neither holds the apex
@@ -15,6 +16,7 @@
 -- bends     a chain, as bends on a side
 -- funnel    the bends that the funnel finds: the start is one more left end, and sees the final bends over what is left of the left chain
 use mathlib.Core.Bool.{Bool, true, false, cond}
+use mathlib.Core.Path.{_≡_}
 use mathlib.Core.List.{List, [], _∷_, _++_, reverse}
 use lib.Dec.{eqb}
 use Rattle.algebra.specs.Arithmetic.{Arithmetic}
@@ -50,6 +52,21 @@ abbrev pub bends : {A : Type 0} → Side → List (Vertex A) → List (Bend A)
 bends t [] = []
 bends t (c ∷ cs) = record { side = t; vertex = c } ∷ bends t cs
 
+module _ (N : Arithmetic) where
+  open Arithmetic N using (carrier as A₀, Pos)
+
+  abbrev pub Says : Sign → A₀ → Type 0
+  Says Plus a = Pos a
+  Says Zero a = a ≡ N .ops .nil
+  Says Minus a = Pos (N .ops .neg a)
+
+  abbrev pub Signs : (A₀ → Sign) → Type 0
+  Signs sign = (a : A₀) → Says (sign a) a
+
+  abbrev pub next : Vec A₀ → List (Vertex A₀) → List (Bend A₀) → Vec A₀
+  next e [] fb = aim N e fb
+  next e (c ∷ cs) fb = c .point
+
 module _ (N : Arithmetic) (sign : N .carrier → Sign) where
   open Arithmetic N using (carrier as A)
 
@@ -57,10 +74,6 @@ module _ (N : Arithmetic) (sign : N .carrier → Sign) where
   bears t a b c = is-turn t (sign (_⊗_ N (_⇢_ N a b) (_⇢_ N a c)))
 
   module _ (e : Vec A) where
-    abbrev pub next : List (Vertex A) → List (Bend A) → Vec A
-    next [] fb = aim N e fb
-    next (c ∷ cs) fb = c .point
-
     -- at the apex
     abbrev pub advance : Side → Vec A → List (Bend A) → List (Vertex A) → Funnel A
     advance t y fb [] = record { near = []; final = fb; far = [] }
@@ -73,7 +86,7 @@ module _ (N : Arithmetic) (sign : N .carrier → Sign) where
     abbrev pub settle : Side → Vec A → List (Vertex A) → List (Bend A) → List (Vertex A) → Funnel A
     settle t y [] fb zs = advance t y fb zs
     settle t y (c ∷ cs) fb zs =
-        cond (bears t y (c .point) (next cs fb))
+        cond (bears t y (c .point) (next N e cs fb))
         (record { near = c ∷ cs; final = fb; far = zs })
         (settle t y cs fb zs)
 
