@@ -12,3 +12,9 @@ pub mod Parted
 pub mod Common
 pub mod Uniqueness
 pub mod Settling
+pub mod FrontLemma
+pub mod Chains
+pub mod Wedge
+pub mod ApexStays
+pub mod ChainCut
+pub mod ApexMoves

@@ -37,7 +37,7 @@ module _ (K : OrderedRing) (e : Vec (K .numbers .carrier)) where
   pub opposed : (t : Side) (v w y : Vec A) → Pos (veer N t (v ⟶ w) (w ⟶ y)) → Nn N (veer N (other t) (v ⟶ w) (v ⟶ y)) → ⊥
   opposed t v w y h n = n .not-neg (pos-eq K (oppose K t v w y) h)
 
-  -- ---- a bend-at at an end that the next portal keeps may be had there as well, if the piece crosses it
+  -- ---- a bend at an end that the next portal keeps may be had there as well, if the piece crosses it
   pub delay : (p q : Portal A) (ps : List (Portal A)) (v : Vec A) (b : Bend A) (bs : List (Bend A)) → end (b .side) p ≡ b .vertex → end (b .side) q ≡ end (b .side) p → Turns N (b .side) v (b .vertex .point) (aim N e bs)
       → Nn N (veer N (other (b .side)) (v ⟶ b .vertex .point) (v ⟶ end (other (b .side)) q .point)) → Thread N e (b .vertex .point) (q ∷ ps) bs → Thread N e v (q ∷ ps) (b ∷ bs)
   delay p q ps v b bs is kept tu cr (pass c st) = bend-at (both (b .side) (λ s. Nn N (veer N s (v ⟶ b .vertex .point) (v ⟶ end s q .point))) (subst (λ m. Nn N (veer N (b .side) (v ⟶ b .vertex .point) (v ⟶ m .point))) (sym (kept ∙ is)) (on-line K (b .side) v (b .vertex .point))) cr) (kept ∙ is) tu st
@@ -76,7 +76,7 @@ module _ (K : OrderedRing) (e : Vec (K .numbers .carrier)) where
     pub unless : (v w : Vec A) → Unless v w → Pos (veer N t (v ⟶ w) (v ⟶ x))
     unless v w h = elim (sign′ K (veer N t (v ⟶ w) (v ⟶ x))) [ inl g ↦ g | inr n ↦ absurd (h (back-nn K t (v ⟶ w) (v ⟶ x) n)) ]
 
-    -- the string on the other side does not bend-at at p, or it does so at q as well
+    -- the string on the other side does not bend at p, or it does so at q as well
     pub waits : (v : Vec A) (b : Bend A) (bs : List (Bend A)) → b .side ≡ other t → end (b .side) p ≡ b .vertex → Turns N (b .side) v (b .vertex .point) (aim N e bs) → Thread N e (b .vertex .point) (q ∷ ps) bs → Unless v (b .vertex .point) → Thread N e v (q ∷ ps) (b ∷ bs)
     waits v b bs s is tu st h = delay p q ps v b bs is (subst (λ r. end r q ≡ end r p) (sym s) kept) tu (side-of t (b .side) s (λ r. Nn N (veer N r (v ⟶ b .vertex .point) (v ⟶ end r q .point))) (nn-pos K (unless v (b .vertex .point) h))) st
 

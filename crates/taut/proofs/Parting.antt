@@ -103,7 +103,7 @@ module _ (K : OrderedRing) where
           absurd (pos-nil (pos-eq K (straight K t (v ⟶ w) (o ⟶ f) (o ⟶ x) (o ⟶ z)) (search signs depth 8)))
     ]
 
-    -- a bend-at at f
+    -- a bend at f
     module _ (v w : Vec A) (cp : Crosses N v f p) (tu : Turns N t v f w) (cq : Crosses N f w q) where
       gd : Nn N (veer N t (f ⟶ o) (v ⟶ f))
       gd = nn-eq K (swap K t (v ⟶ f) (f ⟶ o)) (nn-eq K (sidewise t) (cp (other t)))

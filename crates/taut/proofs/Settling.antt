@@ -35,7 +35,7 @@ module _ (K : OrderedRing) where
     -- what is left of the near chain
     pub data Trims (fb : List (Bend A)) : List (Vertex A) → List (Vertex A) → Type 0 where
       none-left : Trims fb [] []
-      kept : {c : Vertex A} {cs : List (Vertex A)} → Turns N t y (c .point) (next N e cs fb) → Trims fb (c ∷ cs) (c ∷ cs)
+      stops-at : {c : Vertex A} {cs : List (Vertex A)} → Turns N t y (c .point) (next N e cs fb) → Trims fb (c ∷ cs) (c ∷ cs)
       dropped : {c : Vertex A} {cs ks : List (Vertex A)} → Straight t y (c .point) (next N e cs fb) → Trims fb cs ks → Trims fb (c ∷ cs) ks
 
     -- what is left of the far chain on side t, and the final bends then
@@ -115,5 +115,5 @@ module _ (K : OrderedRing) where
           let g : Funnel A = settle N sign e t y cs fb zs in
           let on : Goes fb cs (reverse zs) g = settles cs fb zs in
           tested t y (c .point) (next N e cs fb) (λ b. Goes fb (c ∷ cs) (reverse zs) (cond b (record { near = c ∷ cs; final = fb; far = zs }) g))
-          (λ tu. hooks-on (kept tu))
+          (λ tu. hooks-on (stops-at tu))
           (λ un. pop-on e t y fb (g .final) c cs (reverse zs) (g .near) (reverse (g .far)) un on)

@@ -86,7 +86,7 @@ module _ (K : OrderedRing) (e : Vec (K .numbers .carrier)) where
           ]
         ]
 
-    -- both bend-at at the end that goes
+    -- both bend at the end that goes
     gone : (v w w′ : Vec A) → Crosses N v f p → Turns N t v f w → Turns N t v f w′ → Crosses N f w q → Crosses N f w′ q → Common K f q w w′
     gone v w w′ cp tu tu′ cq cq′ =
         let new : (u : Vec A) → Turns N t v f u → Crosses N f u q → (r : Side) → veer N r (f ⟶ u) (f ⟶ end r q .point) ≡ 𝟘 → Nn N (veer N (other t) (f ⟶ end r q .point) (v ⟶ f)) = λ u tv cv. both t (λ r. veer N r (f ⟶ u) (f ⟶ end r q .point) ≡ 𝟘 → Nn N (veer N (other t) (f ⟶ end r q .point) (v ⟶ f)))
@@ -102,7 +102,7 @@ module _ (K : OrderedRing) (e : Vec (K .numbers .carrier)) where
           ahead′ = new w′ tu′ cq′;
         }
 
-    -- both bend-at at the end that stays, and the piece does not cross the next portal
+    -- both bend at the end that stays, and the piece does not cross the next portal
     stayed : (v w w′ : Vec A) → Pos (veer N t (v ⟶ z) (v ⟶ o)) → Turns N (other t) v o w → Turns N (other t) v o w′ → Common K o q w w′
     stayed v w w′ h tu tu′ =
         let new : (u : Vec A) → (r : Side) → veer N r (o ⟶ u) (o ⟶ end r q .point) ≡ 𝟘 → Nn N (veer N t (o ⟶ end r q .point) (v ⟶ o)) = λ u. both t (λ r. veer N r (o ⟶ u) (o ⟶ end r q .point) ≡ 𝟘 → Nn N (veer N t (o ⟶ end r q .point) (v ⟶ o)))
