@@ -18,3 +18,5 @@ pub mod Wedge
 pub mod ApexStays
 pub mod ChainCut
 pub mod ApexMoves
+pub mod Runs
+pub mod ApexOnPortal
