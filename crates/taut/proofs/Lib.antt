@@ -20,3 +20,4 @@ pub mod ChainCut
 pub mod ApexMoves
 pub mod Runs
 pub mod ApexOnPortal
+pub mod Existence
