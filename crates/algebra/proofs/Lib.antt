@@ -5,3 +5,4 @@ pub mod Integers
 pub mod Irrational
 pub mod Adjoined
 pub mod Quadratics
+pub mod Magnitudes

@@ -1,14 +1,15 @@
 -- The numbers p + q√2 of specs/ are an ordered commutative ring, and the test for positive numbers finds them all.
-use mathlib.Core.Path.{_≡_, refl, sym, ap, _∙_}
+use mathlib.Core.Path.{_≡_, refl, sym, ap, _∙_, subst}
+use Prim.Native.Nat.{zero as nought, suc}
 use mathlib.Core.Logic.{_⊎_, inl, inr}
 use mathlib.Core.Bool.{Bool, true, false, cond, _&&_, _||_}
 use native.Mathlib.Omega.{arith}
 use lib.Dec.{T}
-use lib.IntN.{ℤ, pos, _+ℤ_, _*ℤ_, negℤ}
+use lib.IntN.{ℤ, pos, negsuc, _+ℤ_, _*ℤ_, negℤ}
 use lib.Signed.{_<ℤ_, _≤ℤ_, ltZ}
 use Rattle.std.proofs.shelf.Signed.{ints, by-ltZ}
 use Rattle.algebra.specs.Arithmetic.{Ops, RingLaws, OrderLaws, Arithmetic, OrderedRingLaws, Nn}
-use Rattle.algebra.specs.Number.{Number, number, _⊕_, _⊛_, minus, zero, one, square, twice-square, Positive, neither, first, second, above, sign, Signed, SignsSay, quadratic-ops, quadratics}
+use Rattle.algebra.specs.Number.{Number, number, _⊕_, _⊛_, minus, zero, one, square, twice-square, isZero, is-zero, Positive, neither, first, second, above, sign, Signed, SignsSay, quadratic-ops, quadratics}
 use Rattle.algebra.specs.Number as spec
 use Rattle.algebra.specs.declared.Sign.the-variants.{Minus, Zero, Plus}
 use Rattle.algebra.proofs.OrderedRing.{OrderedRing, base}
@@ -81,14 +82,24 @@ positive-above a (neither h k z) = grind (arith, ints)
 positive-above a (first h k n) = grind (arith, ints)
 positive-above a (second h k n) = grind (arith, ints)
 
-signed-by : (a : Number) (b c : Bool) → above a ≡ b → above (minus a) ≡ c → Signed (cond b Plus (cond c Minus Zero)) a
-signed-by a true c e f = above-positive a (rw e tt)
-signed-by a false true e f = above-positive (minus a) (rw f tt)
+zero-parts : (p q : ℤ) → T (isZero p && isZero q) → number p q ≡ zero
+zero-parts (pos nought) (pos nought) t = refl
+zero-parts (pos nought) (pos (suc n)) t = absurd t
+zero-parts (pos nought) (negsuc n) t = absurd t
+zero-parts (pos (suc m)) q t = absurd t
+zero-parts (negsuc m) q t = absurd t
+
+zero-tests : T (is-zero zero)
+zero-tests = tt
+
+signed-by : (a : Number) (b c : Bool) → is-zero a ≡ b → above a ≡ c → Signed (cond b Zero (cond c Plus Minus)) a
+signed-by a true c e f = zero-parts (a .p) (a .q) (rw e tt)
+signed-by a false true e f = above-positive a (rw f tt)
 signed-by a false false e f = elim (order-laws .trichotomy a) [
-  | inl h ↦ absurd (rw e at (positive-above a h))
-  | inr (inl z) ↦ z
-  | inr (inr h) ↦ absurd (rw f at (positive-above (minus a) h))
+  | inl h ↦ absurd (rw f at (positive-above a h))
+  | inr (inl z) ↦ absurd (rw e at (subst (λ n. T (is-zero n)) (sym z) zero-tests))
+  | inr (inr h) ↦ h
 ]
 
 pub signs-say : SignsSay
-signs-say a = signed-by a (above a) (above (minus a)) refl refl
+signs-say a = signed-by a (is-zero a) (above a) refl refl
