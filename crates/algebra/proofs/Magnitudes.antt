@@ -81,3 +81,25 @@ no-and false = refl
 pub not-zero : (p q : ℤ) → ((ofZ w64 p ≡ 0) × (ofZ w64 q ≡ 0 → ⊥)) ⊎ (ofZ w64 p ≡ 0 → ⊥) → is-zero (number p q) ≡ false
 not-zero p q (inl h) = rw (some-part q (h .1)) (no-and (isZero p))
 not-zero p q (inr h) = rw (some-part p h) refl
+
+pub same-number : {a b c d : ℤ} → a ≡ c → b ≡ d → number a b ≡ number c d
+same-number e f = λ i. number (e i) (f i)
+
+-- ---- a product of two parts, as the code makes it
+pub part-product : (a b : ℤ) → SFits w32 a → SFits w32 b → Within 20000 a → Within 20000 b → toZ w64 (ofZ w64 (toZ w64 (ofZ w64 (toZ w32 (ofZ w32 a))) *ℤ toZ w64 (ofZ w64 (toZ w32 (ofZ w32 b))))) ≡ a *ℤ b
+part-product a b f g h k =
+    let fa : SFits w64 a = omega (arith, ints) in
+    let fb : SFits w64 b = omega (arith, ints) in
+    let w = within-times 20000 20000 a b h k in
+    let fab : SFits w64 (a *ℤ b) = omega (arith, ints, w .0, w .1) in
+    simp toZ-ofZ
+
+pub part-bound : (a b r : ℤ) → Within 20000 a → Within 20000 b → r ≡ a *ℤ b → Within 400000000 r
+part-bound a b r h k e = rw e (within-times 20000 20000 a b h k)
+
+-- ---- sums of parts
+pub added : {a b c d : ℤ} → a ≡ c → b ≡ d → a +ℤ b ≡ c +ℤ d
+added e f = λ i. e i +ℤ f i
+
+pub taken : {a b c d : ℤ} → a ≡ c → b ≡ d → a +ℤ negℤ b ≡ c +ℤ negℤ d
+taken e f = λ i. e i +ℤ negℤ (f i)

@@ -1,9 +1,9 @@
 // Exact numbers p + q√2, in three sizes. The size stands in the type, so that no operation can overflow and none asks anything of its caller.
 ghost use Rattle.algebra.specs.Bounds.{Within};
 
-mod laws;
-mod numbers;
-mod offsets;
+pub mod laws;
+pub mod numbers;
+pub mod offsets;
 mod signs;
 
 #[derive(Clone, Copy, PartialEq, Eq, Debug)]
