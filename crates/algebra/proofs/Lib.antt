@@ -6,3 +6,4 @@ pub mod Irrational
 pub mod Adjoined
 pub mod Quadratics
 pub mod Magnitudes
+pub mod NumberOrder

@@ -1,0 +1,4 @@
+pub mod Tables
+pub mod Largest
+pub mod Magnitude
+pub mod LawfulForms
