@@ -3,3 +3,7 @@ pub mod OrderedRing
 pub mod PlaneSolver
 pub mod Integers
 pub mod Irrational
+pub mod Adjoined
+pub mod Quadratics
+pub mod Magnitudes
+pub mod NumberOrder

@@ -2,15 +2,16 @@
 -- _⊕_ _⊛_ minus _⊖_   sum, product, opposite and difference
 -- zero one      0 and 1
 -- Positive      which numbers are positive; all others but 0 are negative
--- above         the same as a test
+-- above         the same as a test; is-zero tests for 0
 -- sign          minus, zero or plus
 -- Signed        what a sign says of a number
 -- quadratics    the numbers with their operations and order, for the abstract laws
 -- OrderedRing   that they are an ordered commutative ring
 -- SignsSay      that the sign is the right one for every number
 use mathlib.Core.Path.{_≡_}
-use mathlib.Core.Bool.{Bool, cond, _&&_, _||_}
-use lib.IntN.{ℤ, pos, _+ℤ_, _*ℤ_, negℤ}
+use mathlib.Core.Bool.{Bool, true, false, cond, _&&_, _||_}
+use Prim.Native.Nat.{zero as nought, suc}
+use lib.IntN.{ℤ, pos, negsuc, _+ℤ_, _*ℤ_, negℤ}
 use lib.Signed.{_<ℤ_, _≤ℤ_, ltZ}
 use Rattle.algebra.specs.declared.Sign.{Sign}
 use Rattle.algebra.specs.declared.Sign.the-variants.{Minus, Zero, Plus}
@@ -56,13 +57,22 @@ pub data Positive (a : Number) : Type 0 where
   first : pos 0 <ℤ a .p → a .q <ℤ pos 0 → twice-square (a .q) <ℤ square (a .p) → Positive a
   second : pos 0 <ℤ a .q → a .p <ℤ pos 0 → square (a .p) <ℤ twice-square (a .q) → Positive a
 
+abbrev pub isZero : ℤ → Bool
+isZero (pos nought) = true
+isZero (pos (suc n)) = false
+isZero (negsuc n) = false
+
 abbrev pub above : Number → Bool
 above a =
     cond (ltZ (a .p) (pos 0)) (ltZ (pos 0) (a .q) && ltZ (square (a .p)) (twice-square (a .q)))
     (cond (ltZ (a .q) (pos 0)) (ltZ (twice-square (a .q)) (square (a .p))) (ltZ (pos 0) (a .p) || ltZ (pos 0) (a .q)))
 
+abbrev pub is-zero : Number → Bool
+is-zero a = isZero (a .p) && isZero (a .q)
+
+-- every number that is neither zero nor positive is negative
 abbrev pub sign : Number → Sign
-sign a = cond (above a) Plus (cond (above (minus a)) Minus Zero)
+sign a = cond (is-zero a) Zero (cond (above a) Plus Minus)
 
 abbrev pub Signed : Sign → Number → Type 0
 Signed Plus a = Positive a

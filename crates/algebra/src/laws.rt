@@ -1,0 +1,16 @@
+// Theorems about the numbers, each on a contract so that its proof is asked for.
+ghost use Rattle.algebra.specs.Number.{OrderedRing, SignsSay};
+
+// p + q√2 form an ordered commutative ring.
+pub fn ordered_ring_stands() -> u8
+    ensures { λ _. ⌜ OrderedRing ⌝ }
+{
+    0
+}
+
+// The sign that is computed says which numbers are positive, zero and negative.
+pub fn signs_stand() -> u8
+    ensures { λ _. ⌜ SignsSay ⌝ }
+{
+    0
+}

@@ -1,0 +1,3 @@
+pub mod Measure
+pub mod Laws
+pub mod Forms
