@@ -21,3 +21,5 @@ pub mod ApexMoves
 pub mod Runs
 pub mod ApexOnPortal
 pub mod Existence
+pub mod PortalOrder
+pub mod AtNumbers

@@ -86,6 +86,7 @@ module _ (K : OrderedRing) where
 
   module _ (sign : A → Sign) (law : Signs N sign) where
     tested : (t : Side) (y c w : Vec A) (P : Bool → Type 0) → (Turns N t y c w → P true) → (Straight t y c w → P false) → P (bears N sign t y c w)
+    unfolding _⊗_ _⇢_
     tested t y c w P so else′ =
         let a : A = _⊗_ N (y ⟶ c) (y ⟶ w) in
         by-sign t (sign a) a P (law a) (λ h. so (pos-eq K (signed-is t y c w) h)) (λ h. else′ (nn-eq K (ap -_ (signed-is t y c w)) h))

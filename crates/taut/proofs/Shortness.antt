@@ -3,7 +3,7 @@
 -- and the string after it (`After`). A portal that is passed adds one step; at a bend the form is changed there or one portal later, by the switching lemma.
 -- It rests on the conditions of a taut string and on the triangles between portals; the fan bound is not used.
 use mathlib.Core.Path.{_≡_, refl, sym, ap, _∙_, subst}
-use mathlib.Core.List.{List, [], _∷_}
+use mathlib.Core.List.{List, [], _∷_, _++_}
 use mathlib.Core.Logic.{inl, inr}
 use Prim.Native.Nat.{ℕ, zero, suc, _≤_, _-_ as _∸_}
 use native.Mathlib.Omega.{arith}
@@ -114,6 +114,7 @@ module _ (K : OrderedRing) where
     Form f = Among N f fs
 
     above : (f : Vec A) → Form f → (v : Vec A) → Nn N (measure v - f · v)
+    unfolding _⊙_
     above f F v = G v .above f F
 
     best : Vec A → Vec A
@@ -124,7 +125,7 @@ module _ (K : OrderedRing) where
     is-form v = G v .among
 
     reached : (v : Vec A) → best v · v ≡ measure v
-    unfolding best
+    unfolding best _⊙_
     reached v = G v .attained
 
     -- what the steps of a path from x measure together
@@ -249,16 +250,17 @@ module _ (K : OrderedRing) where
     onward-of s [] h = tt
     onward-of s (p ∷ ps) h = h .1
 
-    span-is : (s : Vec A) (bs : List (Bend A)) → span s bs ≡ along N measure s (corners N bs) e
-    span-is s [] = R .laws .add-nil (measure (s ⟶ e))
+    span-is : (s : Vec A) (bs : List (Bend A)) → span s bs ≡ along N measure s (corners N bs ++ (e ∷ []))
+    unfolding _⇢_
+    span-is s [] = refl
     span-is s (b ∷ bs) = ap (λ m. measure (s ⟶ b .vertex .point) + m) (span-is (b .vertex .point) bs)
 
   -- ---- whole numbers of parts
-  whole-nn : (n : ℕ) → Nn N (whole N n)
+  pub whole-nn : (n : ℕ) → Nn N (whole N n)
   whole-nn zero = nn-nil K
   whole-nn (suc n) = nn-add K (nn-pos K (K .laws .order .pos-one)) (whole-nn n)
 
-  whole-less : (D j : ℕ) → j ≤ D → whole N (D ∸ j) ≡ whole N D - whole N j
+  pub whole-less : (D j : ℕ) → j ≤ D → whole N (D ∸ j) ≡ whole N D - whole N j
   whole-less D zero h = ap (whole N) (omega arith) ∙ ring R 1 (λ a. a := a :- :0) refl (whole N D)
   whole-less zero (suc j) h = absurd (omega arith)
   whole-less (suc D) (suc j) h = ap (whole N) (omega arith) ∙ whole-less D j (omega arith) ∙ ring R 2 (λ a b. a :- b := (:1 :+ a) :- (:1 :+ b)) refl (whole N D) (whole N j)
@@ -274,20 +276,20 @@ module _ (K : OrderedRing) where
   to-path D (p ∷ ps) (j ∷ js) h = through (whole N j) (whole-nn j) (nn-eq K (whole-less D j (h .0)) (whole-nn (D ∸ j))) (to-path D ps js (h .1))
 
   tour-is : (fs : List (Vec A)) (measure : Vec A → A) (G : Gauge N fs measure) (D : ℕ) (e : Vec A) (ps : List (Portal A)) (js : List ℕ) (h : Marks N D ps js) (x : Vec A)
-      → tour fs measure G (whole N D) e (to-path D ps js h) x ≡ along N measure x (places N D ps js) (times-over N D e)
-  unfolding to-path scaled
-  tour-is fs measure G D e [] [] h x = refl
+      → tour fs measure G (whole N D) e (to-path D ps js h) x ≡ along N measure x (places N D ps js ++ (times-over N D e ∷ []))
+  unfolding to-path scaled _⇢_
+  tour-is fs measure G D e [] [] h x = sym (R .laws .add-nil (measure (x ⟶ times-over N D e)))
   tour-is fs measure G D e [] (j ∷ js) h x = absurd h
   tour-is fs measure G D e (p ∷ ps) [] h x = absurd h
   tour-is fs measure G D e (p ∷ ps) (j ∷ js) h x =
       let y : Vec A = spot (whole N D) p (whole N j) in
-      ap (λ m. measure (x ⟶ y) + m) (tour-is fs measure G D e ps js (h .1) y) ∙ ap (λ u. measure (x ⟶ u) + along N measure u (places N D ps js) (times-over N D e)) (spot-is D p j (h .0))
+      ap (λ m. measure (x ⟶ y) + m) (tour-is fs measure G D e ps js (h .1) y) ∙ ap (λ u. measure (x ⟶ u) + along N measure u (places N D ps js ++ (times-over N D e ∷ []))) (spot-is D p j (h .0))
 
   -- the theorem
   pub shortness : (fs : List (Vec A)) (measure : Vec A → A) → Gauge N fs measure → (s e : Vec A) (ps : List (Portal A)) (bs : List (Bend A)) → Sleeve N s ps e → TautString N s ps e bs
-      → (D : ℕ) (js : List ℕ) → Marks N D ps js → Nn N (along N measure (times-over N D s) (places N D ps js) (times-over N D e) - whole N D * along N measure s (corners N bs) e)
+      → (D : ℕ) (js : List ℕ) → Marks N D ps js → Nn N (along N measure (times-over N D s) (places N D ps js ++ (times-over N D e ∷ [])) - whole N D * along N measure s (corners N bs ++ (e ∷ [])))
   unfolding scaled
   shortness fs measure G s e ps bs h st D js marks =
-      subst (λ m. Nn N (m - whole N D * along N measure s (corners N bs) e)) (tour-is fs measure G D e ps js marks (times-over N D s))
+      subst (λ m. Nn N (m - whole N D * along N measure s (corners N bs ++ (e ∷ [])))) (tour-is fs measure G D e ps js marks (times-over N D s))
       (subst (λ m. Nn N (tour fs measure G (whole N D) e (to-path D ps js marks) (times-over N D s) - whole N D * m)) (span-is fs measure G (whole N D) e s bs)
       (shortest fs measure G (whole N D) e s ps bs (onward-of fs measure G (whole N D) e s ps h) (to-taut N st .thread) (to-path D ps js marks)))

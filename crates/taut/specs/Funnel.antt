@@ -20,7 +20,7 @@ use mathlib.Core.Path.{_≡_}
 use mathlib.Core.List.{List, [], _∷_, _++_, reverse}
 use lib.Dec.{eqb}
 use Rattle.algebra.specs.Arithmetic.{Arithmetic}
-use Rattle.algebra.specs.Plane.{Vec, _⊗_, _⟶_ as _⇢_}
+use Rattle.algebra.specs.Plane.{Vec, less, cross}
 use Rattle.algebra.specs.declared.Sign.{Sign}
 use Rattle.algebra.specs.declared.Sign.the-variants.{Minus, Zero, Plus}
 use Rattle.taut.specs.declared.Side.{Side}
@@ -71,7 +71,7 @@ module _ (N : Arithmetic) (sign : N .carrier → Sign) where
   open Arithmetic N using (carrier as A)
 
   abbrev pub bears : Side → Vec A → Vec A → Vec A → Bool
-  bears t a b c = is-turn t (sign (_⊗_ N (_⇢_ N a b) (_⇢_ N a c)))
+  bears t a b c = is-turn t (sign (cross (N .ops) (less (N .ops) b a) (less (N .ops) c a)))
 
   module _ (e : Vec A) where
     -- at the apex

@@ -3,3 +3,5 @@ pub mod Fan
 pub mod TautString
 pub mod Lengths
 pub mod Funnel
+pub mod Laws
+pub mod SheetStrings

@@ -4,6 +4,7 @@
 -- end        the end of a portal on a side
 -- veer       positive where the second step points to that side of the first, zero where it lies along its line
 -- Front      a point lies strictly in front of a portal: left end, right end and the point turn left
+-- On-line    a point lies on the line of a portal
 -- Behind     a point lies strictly behind a portal
 -- Keeps      the second portal keeps the end of the first on that side; its other end is another vertex, strictly in front of the first
 -- Link       the second portal follows on the first: it keeps one of its ends
@@ -48,6 +49,9 @@ module _ (N : Arithmetic) where
 
   abbrev pub Front : Portal A → Vec A → Type 0
   Front p x = Pos (veer Left (p .left .point ⟶ p .right .point) (p .left .point ⟶ x))
+
+  abbrev pub On-line : Portal A → Vec A → Type 0
+  On-line p x = veer Left (p .left .point ⟶ p .right .point) (p .left .point ⟶ x) ≡ N .ops .nil
 
   abbrev pub Behind : Portal A → Vec A → Type 0
   Behind p x = Pos (veer Right (p .left .point ⟶ p .right .point) (p .left .point ⟶ x))
