@@ -11,7 +11,9 @@ use Rattle.taut.specs.Sleeve.{other, Vertex, Portal, end, veer, Link, Ahead}
 use Rattle.taut.specs.TautString.{Bend, Crosses, Turns, aim}
 use Rattle.taut.specs.Fan.{Clear, Within}
 use Rattle.taut.proofs.Veer.{swap, self, in-order′, to-head, cyc, from-apex, to-apex, about}
-use Rattle.taut.proofs.Thread.{Thread, both, front}
+use Rattle.taut.proofs.Sides.{both}
+use Rattle.taut.proofs.Portals.{front}
+use Rattle.taut.proofs.Thread.{Thread}
 use Rattle.taut.proofs.FanLemma.{fan}
 use Rattle.taut.proofs.Runs.{rays, sweep}
 use Rattle.taut.proofs.Chains.{to-head°, Stem, Meets, Arm, stop, over, thread-of, Wing}

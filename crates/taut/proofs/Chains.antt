@@ -14,7 +14,9 @@ use Rattle.taut.specs.Sleeve.{other, Vertex, Portal, end, veer}
 use Rattle.taut.specs.TautString.{Bend, Crosses, Turns, aim}
 use Rattle.taut.specs.Funnel.{bends, next}
 use Rattle.taut.proofs.Veer.{swap, self, between, to-head, to-tail, popped, fore-at, faces-sum}
-use Rattle.taut.proofs.Thread.{Thread, arrive, pass, bend-at, both, on-line}
+use Rattle.taut.proofs.Sides.{both}
+use Rattle.taut.proofs.Portals.{on-line}
+use Rattle.taut.proofs.Thread.{Thread, arrive, pass, bend-at}
 use Rattle.taut.proofs.FrontLemma.{Seen, fore}
 use Rattle.taut.proofs.Settling.{Straight, Trims, none-left, stops-at, dropped}
 

@@ -12,7 +12,7 @@ use Rattle.taut.specs.declared.Side.the-variants.{Left, Right}
 use Rattle.taut.specs.Sleeve.{other, Portal, end, veer}
 use Rattle.taut.specs.TautString.{Crosses}
 use Rattle.taut.proofs.Veer.{swap, back, pluecker, three, between, between-back, between-flip, cross-sum, fore-sum, front-three, front-two}
-use Rattle.taut.proofs.Thread.{both}
+use Rattle.taut.proofs.Sides.{both}
 use Rattle.taut.proofs.Along.{vanish, along-pos}
 use Rattle.taut.proofs.Parting.{In-front, Gapless}
 

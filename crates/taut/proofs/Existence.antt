@@ -19,7 +19,8 @@ use Rattle.taut.specs.TautString.{Bend, Crosses, Turns, aim, Stretched, TautSt
 use Rattle.taut.specs.Fan.{Within, opposite, Later-rounds, FanBound}
 use Rattle.taut.specs.Funnel.{Funnel, bends, Signs, next, settle, gain, widen, funnel-at, funnel}
 use Rattle.taut.proofs.Veer.{swap, still, to-apex, behind-is}
-use Rattle.taut.proofs.Thread.{Thread, arrive, pass, bend-at, Taut, front}
+use Rattle.taut.proofs.Portals.{front}
+use Rattle.taut.proofs.Thread.{Thread, arrive, pass, bend-at, Taut}
 use Rattle.taut.proofs.IndexForm.{of-taut}
 use Rattle.taut.proofs.Runs.{choose, rays, Fans, within, first-fans, next-fans}
 use Rattle.taut.proofs.Settling.{none-left, stops-at, dropped, no-chain, passed, halts, stands, Settled, hooks-on, looks, settles}

@@ -1,7 +1,10 @@
+pub mod Sides
 pub mod Veer
+pub mod Portals
 pub mod Thread
 pub mod IndexForm
 pub mod SwitchingLemma
+pub mod Wholes
 pub mod Shortness
 pub mod Along
 pub mod FanLemma

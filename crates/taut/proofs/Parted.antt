@@ -13,7 +13,9 @@ use Rattle.taut.specs.declared.Side.the-variants.{Left, Right}
 use Rattle.taut.specs.Sleeve.{other, Portal, end, veer, Front, Ahead}
 use Rattle.taut.specs.TautString.{Bend, Crosses, Turns, aim}
 use Rattle.taut.proofs.Veer.{self, from-head, oppose, at-head, past-line}
-use Rattle.taut.proofs.Thread.{Thread, arrive, pass, bend-at, crossing, which, side-of, both, front, on-line, back-nn}
+use Rattle.taut.proofs.Sides.{which, side-of, both}
+use Rattle.taut.proofs.Portals.{front, on-line, back-nn}
+use Rattle.taut.proofs.Thread.{Thread, arrive, pass, bend-at, crossing}
 use Rattle.taut.proofs.Parting.{In-front, Gapless, Sep, mirror, ahead-straight, bent-near, bent-new, bent-fore, bent-left}
 
 module _ (K : OrderedRing) (e : Vec (K .numbers .carrier)) where

@@ -13,7 +13,7 @@ use Rattle.taut.specs.declared.Side.the-variants.{Left, Right}
 use Rattle.taut.specs.Sleeve.{other, Portal, end, veer}
 use Rattle.taut.specs.TautString.{Crosses, Turns}
 use Rattle.taut.proofs.Veer.{swap, in-order, straight, bent-front, from-head, cyc, past-line, front-sum}
-use Rattle.taut.proofs.Thread.{back-nn}
+use Rattle.taut.proofs.Portals.{back-nn}
 use Rattle.taut.proofs.Along.{pos-right}
 
 module _ (K : OrderedRing) where

@@ -13,7 +13,7 @@ use Rattle.taut.specs.declared.Side.{Side}
 use Rattle.taut.specs.declared.Side.the-variants.{Left, Right}
 use Rattle.taut.specs.Sleeve.{Portal, end, veer, Front, On-line, Keeps}
 use Rattle.taut.specs.Lengths.{whole, times-over, place, magnified}
-use Rattle.taut.proofs.Shortness.{whole-nn, whole-less}
+use Rattle.taut.proofs.Wholes.{whole-nn, whole-less}
 
 module _ (K : OrderedRing) where
   abbrev N : Arithmetic

@@ -13,7 +13,9 @@ use Rattle.taut.specs.Sleeve.{other, Portal, end, veer, Front, Keeps, Link, Ah
 use Rattle.taut.specs.TautString.{Bend, Crosses, Turns, aim}
 use Rattle.taut.specs.Fan.{Sweeps, Within, Fan, Run, ends, leaves, goes-on, Round}
 use Rattle.taut.proofs.Veer.{swap, self, still}
-use Rattle.taut.proofs.Thread.{Thread, pass, bend-at, crossing, arrives, which, front-from}
+use Rattle.taut.proofs.Sides.{which}
+use Rattle.taut.proofs.Portals.{front-from}
+use Rattle.taut.proofs.Thread.{Thread, pass, bend-at, crossing, arrives}
 use Rattle.taut.proofs.FanParts.{fan-tail}
 
 module _ (K : OrderedRing) (e : Vec (K .numbers .carrier)) where

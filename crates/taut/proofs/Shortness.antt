@@ -5,22 +5,23 @@
 use mathlib.Core.Path.{_≡_, refl, sym, ap, _∙_, subst}
 use mathlib.Core.List.{List, [], _∷_, _++_}
 use mathlib.Core.Logic.{inl, inr}
-use Prim.Native.Nat.{ℕ, zero, suc, _≤_, _-_ as _∸_}
-use native.Mathlib.Omega.{arith}
+use Prim.Native.Nat.{ℕ, _≤_, _-_ as _∸_}
 use lib.Dec.{T}
 use Rattle.algebra.specs.Arithmetic.{Ops, OrderLaws, Arithmetic, Nn}
 use Rattle.algebra.specs.Plane.{Vec, plus, less, times, dot, _⊗_, _⟶_ as _⇢_, _⊙_}
-use Rattle.algebra.proofs.RingSolver.{CommRing, :0, :1, _:+_, _:-_, _:*_, :-_, _:=_, E, order, ring}
-use Rattle.algebra.proofs.OrderedRing.{OrderedRing, base, nn-eq, nn-pos, nn-nil, sign, nn-add, nn-mul}
+use Rattle.algebra.proofs.RingSolver.{CommRing, :0, _:+_, _:-_, _:*_, :-_, _:=_, E, order, ring}
+use Rattle.algebra.proofs.OrderedRing.{OrderedRing, base, nn-eq, nn-pos, sign, nn-add, nn-mul}
 use Rattle.algebra.proofs.PlaneSolver.{_:×_, ringV, same-vector}
 use Rattle.taut.specs.declared.Side.{Side}
 use Rattle.taut.specs.declared.Side.the-variants.{Left, Right}
 use Rattle.taut.specs.Sleeve.{other, Portal, end, veer, Ahead, Sleeve}
 use Rattle.taut.specs.TautString.{Bend, Crosses, Turns, aim, corners, TautString}
 use Rattle.taut.specs.Lengths.{Among, Gauge, along, whole, times-over, place, Marks, places}
-use Rattle.taut.proofs.Thread.{Thread, arrive, pass, bend-at, crossing, arrives, keeps, front-from}
+use Rattle.taut.proofs.Portals.{keeps, front-from}
+use Rattle.taut.proofs.Thread.{Thread, arrive, pass, bend-at, crossing, arrives}
 use Rattle.taut.proofs.IndexForm.{to-taut}
 use Rattle.taut.proofs.SwitchingLemma.{here, later}
+use Rattle.taut.proofs.Wholes.{whole-nn, whole-less}
 
 -- D times the place that divides the line from a to b as k to D − k, over any operations
 module _ {A : Type 0} (O : Ops A) where
@@ -256,24 +257,15 @@ module _ (K : OrderedRing) where
     span-is s (b ∷ bs) = ap (λ m. measure (s ⟶ b .vertex .point) + m) (span-is (b .vertex .point) bs)
 
   -- ---- whole numbers of parts
-  pub whole-nn : (n : ℕ) → Nn N (whole N n)
-  whole-nn zero = nn-nil K
-  whole-nn (suc n) = nn-add K (nn-pos K (K .laws .order .pos-one)) (whole-nn n)
-
-  pub whole-less : (D j : ℕ) → j ≤ D → whole N (D ∸ j) ≡ whole N D - whole N j
-  whole-less D zero h = ap (whole N) (omega arith) ∙ ring R 1 (λ a. a := a :- :0) refl (whole N D)
-  whole-less zero (suc j) h = absurd (omega arith)
-  whole-less (suc D) (suc j) h = ap (whole N) (omega arith) ∙ whole-less D j (omega arith) ∙ ring R 2 (λ a b. a :- b := (:1 :+ a) :- (:1 :+ b)) refl (whole N D) (whole N j)
-
   spot-is : (D : ℕ) (p : Portal A) (j : ℕ) → j ≤ D → spot (whole N D) p (whole N j) ≡ place N D p j
   unfolding mix
-  spot-is D p j h = ap (λ i. plus (N .ops) (times (N .ops) i (p .left .point)) (times-over N j (p .right .point))) (sym (whole-less D j h))
+  spot-is D p j h = ap (λ i. plus (N .ops) (times (N .ops) i (p .left .point)) (times-over N j (p .right .point))) (sym (whole-less K D j h))
 
   to-path : (D : ℕ) (ps : List (Portal A)) (js : List ℕ) → Marks N D ps js → Path (whole N D) ps
   to-path D [] [] h = stop
   to-path D [] (j ∷ js) h = absurd h
   to-path D (p ∷ ps) [] h = absurd h
-  to-path D (p ∷ ps) (j ∷ js) h = through (whole N j) (whole-nn j) (nn-eq K (whole-less D j (h .0)) (whole-nn (D ∸ j))) (to-path D ps js (h .1))
+  to-path D (p ∷ ps) (j ∷ js) h = through (whole N j) (whole-nn K j) (nn-eq K (whole-less K D j (h .0)) (whole-nn K (D ∸ j))) (to-path D ps js (h .1))
 
   tour-is : (fs : List (Vec A)) (measure : Vec A → A) (G : Gauge N fs measure) (D : ℕ) (e : Vec A) (ps : List (Portal A)) (js : List ℕ) (h : Marks N D ps js) (x : Vec A)
       → tour fs measure G (whole N D) e (to-path D ps js h) x ≡ along N measure x (places N D ps js ++ (times-over N D e ∷ []))

@@ -15,7 +15,9 @@ use Rattle.taut.specs.Sleeve.{other, Portal, end, veer, Front, Behind, Ahead, 
 use Rattle.taut.specs.TautString.{Bend, Crosses, Turns, aim, Stretched, TautString}
 use Rattle.taut.specs.Fan.{origin, ends}
 use Rattle.taut.proofs.Veer.{swap, back, still, from-head, to-foot, cyc, behind-is, left-end, right-end, through-portal}
-use Rattle.taut.proofs.Thread.{Thread, arrive, pass, bend-at, crossing, first-turn, Taut, which, side-of, both, front, on-line}
+use Rattle.taut.proofs.Sides.{which, side-of, both}
+use Rattle.taut.proofs.Portals.{front, on-line}
+use Rattle.taut.proofs.Thread.{Thread, arrive, pass, bend-at, crossing, first-turn, Taut}
 use Rattle.taut.proofs.IndexForm.{to-taut}
 use Rattle.taut.proofs.Along.{along-both, axes}
 use Rattle.taut.proofs.Parting.{In-front, bent-near, bent-new}
