@@ -5,14 +5,13 @@ use mathlib.Core.List.{List, [], _∷_, _++_}
 use Rattle.algebra.specs.Arithmetic.{Ops, Arithmetic, Nn}
 use Rattle.algebra.specs.Plane.{Vec, _⟶_ as _⇢_}
 use Rattle.algebra.proofs.RingSolver.{CommRing, at}
-use Rattle.algebra.proofs.OrderedRing.{OrderedRing, base, pos-eq, nn-eq, nn-pos, nn-nil, nn-cancel, signs}
+use Rattle.algebra.proofs.OrderedRing.{OrderedRing, base, pos-eq, nn-eq, nn-pos, nn-cancel, signs}
 use Rattle.taut.specs.declared.Side.{Side}
 use Rattle.taut.specs.Sleeve.{other, Vertex, Portal, end, veer, Link, Ahead}
 use Rattle.taut.specs.TautString.{Bend, Crosses, Turns, aim}
 use Rattle.taut.specs.Fan.{Clear, Within}
-use Rattle.taut.proofs.Veer.{swap, self, in-order′, to-head, cyc, from-apex, to-apex, about}
-use Rattle.taut.proofs.Sides.{both}
-use Rattle.taut.proofs.Portals.{front}
+use Rattle.taut.proofs.Veer.{swap, in-order′, cyc, from-apex, to-apex, about}
+use Rattle.taut.proofs.Portals.{front, ends-zero, starts-zero, crosses}
 use Rattle.taut.proofs.Thread.{Thread}
 use Rattle.taut.proofs.FanLemma.{fan}
 use Rattle.taut.proofs.Runs.{rays, sweep}
@@ -36,15 +35,6 @@ module _ (K : OrderedRing) (e : Vec (K .numbers .carrier)) where
   infix 73 _⟶_
   abbrev _⟶_ : Vec A → Vec A → Vec A
   v ⟶ w = _⇢_ N v w
-
-  pub ends-zero : (s : Side) (y v x : Vec A) → x ≡ v → Nn N (veer N s (y ⟶ v) (y ⟶ x))
-  ends-zero s y v x is = subst (λ u. Nn N (veer N s (y ⟶ v) (y ⟶ u))) (sym is) (nn-eq K (sym (self K s (y ⟶ v))) (nn-nil K))
-
-  pub starts-zero : (s : Side) (y v : Vec A) → Nn N (veer N s (y ⟶ v) (y ⟶ y))
-  starts-zero s y v = nn-eq K (sym (to-head K s y v y ∙ self K (other s) (y ⟶ v))) (nn-nil K)
-
-  pub crosses : (s : Side) (y v : Vec A) (q : Portal A) → Nn N (veer N s (y ⟶ v) (y ⟶ end s q .point)) → Nn N (veer N (other s) (y ⟶ v) (y ⟶ end (other s) q .point)) → Crosses N y v q
-  crosses s y v q h k = both s (λ x. Nn N (veer N x (y ⟶ v) (y ⟶ end x q .point))) h k
 
   -- ---- portals round the apex, whose ends across the way on from it leaves behind
   module _ (s : Side) (m : Vertex A) (bs : List (Bend A)) where
@@ -74,7 +64,7 @@ module _ (K : OrderedRing) (e : Vec (K .numbers .carrier)) where
           let k : Vec A = end (other s) q .point in
           let rk : Nn N (veer N s (r ⟶ v) (k ⟶ v)) = nn-eq K (to-head° K s r v k) (c (other s)) in
           let ko : Nn N (veer N s (k ⟶ v) o) = h .1 in
-          crosses s y v q (ends-zero s y v (end s q .point) (ap (λ x. x .point) (h .0))) (nn-eq K (sym (to-head° K s y v k)) (nn-cancel K ro (nn-eq K (in-order′ K s o (y ⟶ v) (r ⟶ v) (k ⟶ v)) (search signs))))
+          crosses K s y v q (ends-zero K s y v (end s q .point) (ap (λ x. x .point) (h .0))) (nn-eq K (sym (to-head° K s y v k)) (nn-cancel K ro (nn-eq K (in-order′ K s o (y ⟶ v) (r ⟶ v) (k ⟶ v)) (search signs))))
 
       meets-round : (qs : List (Portal A)) → First-beside qs → Meets K e fb qs r → Meets K e fb qs y
       meets-round [] h c = tt
@@ -147,7 +137,7 @@ module _ (K : OrderedRing) (e : Vec (K .numbers .carrier)) where
         all = ap (λ qs. p₀ ∷ qs) (f .all);
         rounds = ((sym kept ∙ f .is, nn-pos K (yo s p ps h m bs f y fr cl)), f .rounds);
         first-round = f .first-round;
-        arm = over (crosses s y (m .point) p₀ (ends-zero s y (m .point) (end s p₀ .point) (ap (λ k. k .point) (sym kept ∙ f .is))) (starts-zero (other s) y (m .point))) (round-arm s p ps h m bs f y fr cl (other s));
+        arm = over (crosses K s y (m .point) p₀ (ends-zero K s y (m .point) (end s p₀ .point) (ap (λ k. k .point) (sym kept ∙ f .is))) (starts-zero K (other s) y (m .point))) (round-arm s p ps h m bs f y fr cl (other s));
         turns = yo s p ps h m bs f y fr cl;
         inn = w;
       }
@@ -168,9 +158,9 @@ module _ (K : OrderedRing) (e : Vec (K .numbers .carrier)) where
         stem = f .stem;
         all = f .all;
         two = record {
-          near = record { arm = round-arm s p ps h m bs f y fr cl s; passes = crosses s y v₁ p₀ (starts-zero s y v₁) (nn-eq K (sym (swap K s (y ⟶ v₁) (y ⟶ end (other s) p₀ .point))) (nn-pos K (subst (λ x. Pos (veer N s (y ⟶ x) (y ⟶ v₁))) at fr₁))); convex = yo s p ps h m bs f y fr cl };
+          near = record { arm = round-arm s p ps h m bs f y fr cl s; passes = crosses K s y v₁ p₀ (starts-zero K s y v₁) (nn-eq K (sym (swap K s (y ⟶ v₁) (y ⟶ end (other s) p₀ .point))) (nn-pos K (subst (λ x. Pos (veer N s (y ⟶ x) (y ⟶ v₁))) at fr₁))); convex = yo s p ps h m bs f y fr cl };
           far = subst (λ x. record { a : Arm K e (record { side = s; vertex = m } ∷ bs) (f .rest) (other s) x [] (f .pre); c : Turns N s x v₁ (aim N e (bs)) } → Wing K e (record { side = s; vertex = m } ∷ bs) (f .rest) (other s) p₀ (f .pre) []) (sym at)
-              (λ g. record { arm = g .a; passes = crosses s (end (other s) p₀ .point) v₁ p₀ (nn-pos K (pos-eq K (cyc K s y (end (other s) p₀ .point) v₁) (subst (λ x. Pos (veer N s (y ⟶ x) (y ⟶ v₁))) at fr₁))) (starts-zero (other s) (end (other s) p₀ .point) v₁); convex = g .c })
+              (λ g. record { arm = g .a; passes = crosses K s (end (other s) p₀ .point) v₁ p₀ (nn-pos K (pos-eq K (cyc K s y (end (other s) p₀ .point) v₁) (subst (λ x. Pos (veer N s (y ⟶ x) (y ⟶ v₁))) at fr₁))) (starts-zero K (other s) (end (other s) p₀ .point) v₁); convex = g .c })
               (record { a = f .arm; c = f .turns });
           gap = subst (λ x. Wedge K s (y ⟶ v₁) (x ⟶ v₁)) at (open′ (yr s p ps h m bs f y fr cl));
         };

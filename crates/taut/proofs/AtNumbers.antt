@@ -4,6 +4,7 @@ use Rattle.algebra.specs.Number.{quadratics, sign}
 use Rattle.algebra.proofs.Quadratics.{quadratic-ring, signs-say}
 use Rattle.taut.specs.Fan.{opposite}
 use Rattle.taut.specs.Laws.{Shortness, Existence, Uniqueness, FanOrder, FanParts, PortalOrder}
+use Rattle.taut.specs.Backwards.{Backwards}
 use Rattle.taut.specs.SheetStrings.{SheetStrings}
 use Rattle.taut.proofs.Shortness.{shortness}
 use Rattle.taut.proofs.Existence.{existence}
@@ -11,6 +12,7 @@ use Rattle.taut.proofs.Uniqueness.{uniqueness}
 use Rattle.taut.proofs.FanOrder.{not-again}
 use Rattle.taut.proofs.FanParts.{fan-part, fan-reverse, fan-first, fan-last}
 use Rattle.taut.proofs.PortalOrder.{portal-order}
+use Rattle.taut.proofs.Backwards.{sleeve-back, string-back}
 
 pub shortness-here : Shortness
 shortness-here fs measure G s e ps bs h st D js marks = record { gap = shortness quadratic-ring fs measure G s e ps bs h st D js marks }
@@ -32,3 +34,6 @@ portal-order-here t p q k D j le = portal-order quadratic-ring p q D j le t k
 
 pub sheet-strings-here : SheetStrings
 sheet-strings-here = record { hole-on-the-left = refl; hole-on-the-right = refl; once-round = refl; touching = refl }
+
+pub backwards-here : Backwards
+backwards-here = record { sleeve = sleeve-back quadratic-ring; string = string-back quadratic-ring }

@@ -19,7 +19,7 @@ use Rattle.taut.specs.TautString.{Bend, Crosses, Turns, aim, Stretched, TautSt
 use Rattle.taut.specs.Fan.{Within, opposite, Later-rounds, FanBound}
 use Rattle.taut.specs.Funnel.{Funnel, bends, Signs, next, settle, gain, widen, funnel-at, funnel}
 use Rattle.taut.proofs.Veer.{swap, still, to-apex, behind-is}
-use Rattle.taut.proofs.Portals.{front}
+use Rattle.taut.proofs.Portals.{front, ends-zero, starts-zero, crosses}
 use Rattle.taut.proofs.Thread.{Thread, arrive, pass, bend-at, Taut}
 use Rattle.taut.proofs.IndexForm.{of-taut}
 use Rattle.taut.proofs.Runs.{choose, rays, Fans, within, first-fans, next-fans}
@@ -29,7 +29,7 @@ use Rattle.taut.proofs.Wedge.{Wedge, open′, shut}
 use Rattle.taut.proofs.ApexStays.{hooks, sees}
 use Rattle.taut.proofs.ChainCut.{fb′, Outcome, gone, seen, cut-at, outcome}
 use Rattle.taut.proofs.ApexMoves.{Open, moves}
-use Rattle.taut.proofs.ApexOnPortal.{ends-zero, starts-zero, crosses, Flush, Apart, Result, flush-thread, stay, leave}
+use Rattle.taut.proofs.ApexOnPortal.{Flush, Apart, Result, flush-thread, stay, leave}
 
 module _ (K : OrderedRing) (e : Vec (K .numbers .carrier)) where
   abbrev N : Arithmetic
@@ -129,7 +129,7 @@ module _ (K : OrderedRing) (e : Vec (K .numbers .carrier)) where
     cr = edge K e fb rest s p (end s p .point) ds (wing .passes)
 
     now-thread : Result K e z (p ∷ ps) (record { side = s; vertex = end s p } ∷ bb)
-    now-thread = record { thread = bend-at (crosses K e s z (end s p .point) p (ends-zero K e s z (end s p .point) (end s p .point) refl) (nn-eq K (sym (swap K s (z ⟶ end s p .point) (z ⟶ end (other s) p .point))) (nn-pos K fr))) refl tu′ on; apart = tt }
+    now-thread = record { thread = bend-at (crosses K s z (end s p .point) p (ends-zero K s z (end s p .point) (end s p .point) refl) (nn-eq K (sym (swap K s (z ⟶ end s p .point) (z ⟶ end (other s) p .point))) (nn-pos K fr))) refl tu′ on; apart = tt }
 
     inn₀ : Within N s (end s p .point ⟶ aim N e bb) (end s p .point ⟶ end (other s) p .point) (rays K e s (end s p .point) p ps h)
     inn₀ = within K e s (end s p .point) p ps h refl bb on cr
@@ -143,7 +143,7 @@ module _ (K : OrderedRing) (e : Vec (K .numbers .carrier)) where
       all = refl;
       rounds = tt;
       first-round = (sym kept, nn-pos K tu′);
-      arm = stop (crosses K e s z (end s p .point) p₀ (ends-zero K e s z (end s p .point) (end s p₀ .point) (ap (λ k. k .point) (sym kept))) (starts-zero K e (other s) z (end s p .point)));
+      arm = stop (crosses K s z (end s p .point) p₀ (ends-zero K s z (end s p .point) (end s p₀ .point) (ap (λ k. k .point) (sym kept))) (starts-zero K (other s) z (end s p .point)));
       turns = tu′;
       inn = w;
     }
@@ -235,8 +235,8 @@ module _ (K : OrderedRing) (e : Vec (K .numbers .carrier)) where
     stem = at-end;
     all = refl;
     two = record {
-      near = record { arm = stop tt; passes = crosses K e Left (p .left .point) e p (starts-zero K e Left (p .left .point) e) (nn-pos K f); convex = tt };
-      far = record { arm = stop tt; passes = crosses K e Right (p .right .point) e p (starts-zero K e Right (p .right .point) e) (nn-pos K (front K Right p e f)); convex = tt };
+      near = record { arm = stop tt; passes = crosses K Left (p .left .point) e p (starts-zero K Left (p .left .point) e) (nn-pos K f); convex = tt };
+      far = record { arm = stop tt; passes = crosses K Right (p .right .point) e p (starts-zero K Right (p .right .point) e) (nn-pos K (front K Right p e f)); convex = tt };
       gap = open′ (pos-eq K (to-apex K Left (p .left .point) (p .right .point) e) f);
     };
   }

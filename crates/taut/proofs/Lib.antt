@@ -25,4 +25,5 @@ pub mod Runs
 pub mod ApexOnPortal
 pub mod Existence
 pub mod PortalOrder
+pub mod Backwards
 pub mod AtNumbers

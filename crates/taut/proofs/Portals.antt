@@ -1,5 +1,5 @@
 -- Signs that a portal gives, for either of its ends.
-use mathlib.Core.Path.{_≡_, sym, subst}
+use mathlib.Core.Path.{_≡_, sym, _∙_, subst}
 use mathlib.Core.Logic.{_⊎_, inl, inr}
 use Rattle.algebra.specs.Arithmetic.{Arithmetic, Nn}
 use Rattle.algebra.specs.Plane.{Vec, _⟶_ as _⇢_}
@@ -7,7 +7,9 @@ use Rattle.algebra.proofs.OrderedRing.{OrderedRing, pos-eq, nn-eq, nn-nil}
 use Rattle.taut.specs.declared.Side.{Side}
 use Rattle.taut.specs.declared.Side.the-variants.{Left, Right}
 use Rattle.taut.specs.Sleeve.{other, Portal, end, veer, Front, Keeps, Link}
-use Rattle.taut.proofs.Veer.{back, self, cyc}
+use Rattle.taut.specs.TautString.{Crosses}
+use Rattle.taut.proofs.Sides.{both}
+use Rattle.taut.proofs.Veer.{back, self, to-head, cyc}
 
 module _ (K : OrderedRing) where
   abbrev N : Arithmetic
@@ -38,3 +40,14 @@ module _ (K : OrderedRing) where
 
   pub back-nn : (t : Side) (a b : Vec A) → Nn N (N .ops .neg (veer N t a b)) → Nn N (veer N t b a)
   back-nn t a b h = nn-eq K (back K t a b) h
+
+  -- a line goes through its start and through what it leads to
+  pub ends-zero : (s : Side) (y v x : Vec A) → x ≡ v → Nn N (veer N s (y ⟶ v) (y ⟶ x))
+  ends-zero s y v x is = subst (λ u. Nn N (veer N s (y ⟶ v) (y ⟶ u))) (sym is) (nn-eq K (sym (self K s (y ⟶ v))) (nn-nil K))
+
+  pub starts-zero : (s : Side) (y v : Vec A) → Nn N (veer N s (y ⟶ v) (y ⟶ y))
+  starts-zero s y v = nn-eq K (sym (to-head K s y v y ∙ self K (other s) (y ⟶ v))) (nn-nil K)
+
+  -- it crosses a portal if each end is on its proper side
+  pub crosses : (s : Side) (y v : Vec A) (q : Portal A) → Nn N (veer N s (y ⟶ v) (y ⟶ end s q .point)) → Nn N (veer N (other s) (y ⟶ v) (y ⟶ end (other s) q .point)) → Crosses N y v q
+  crosses s y v q h k = both s (λ x. Nn N (veer N x (y ⟶ v) (y ⟶ end x q .point))) h k

@@ -18,7 +18,7 @@ use Rattle.taut.specs.Sleeve.{other, Portal, end, veer, Ahead, Sleeve}
 use Rattle.taut.specs.TautString.{Bend, Crosses, Turns, aim, corners, TautString}
 use Rattle.taut.specs.Lengths.{Among, Gauge, along, whole, times-over, place, Marks, places}
 use Rattle.taut.proofs.Portals.{keeps, front-from}
-use Rattle.taut.proofs.Thread.{Thread, arrive, pass, bend-at, crossing, arrives}
+use Rattle.taut.proofs.Thread.{Thread, arrive, pass, bend-at, crossing, arrives, Onward, onward-next, onward-of}
 use Rattle.taut.proofs.IndexForm.{to-taut}
 use Rattle.taut.proofs.SwitchingLemma.{here, later}
 use Rattle.taut.proofs.Wholes.{whole-nn, whole-less}
@@ -218,38 +218,24 @@ module _ (K : OrderedRing) where
             ]
           ]
 
-    Onward : List (Portal A) → Type 0
-    Onward [] = Unit {0}
-    Onward (p ∷ ps) = Ahead N e p ps
-
-    onward : (p : Portal A) (ps : List (Portal A)) → Ahead N e p ps → Onward ps
-    unfolding Onward
-    onward p [] h = tt
-    onward p (q ∷ ps) h = h .1
-
-    after : {v : Vec A} {ps : List (Portal A)} {bs : List (Bend A)} → Thread N e v ps bs → Onward ps → After v ps bs
-    unfolding After Onward
+    after : {v : Vec A} {ps : List (Portal A)} {bs : List (Bend A)} → Thread N e v ps bs → Onward N e ps → After v ps bs
+    unfolding After
     after arrive h = tt
-    after (pass {p = p} {ps = ps} c st) h = λ path j j0 j1 f F re. reach st (after st (onward p ps h)) path (spot D p j) f F re
-    after (bend-at {v = v} {p = p} {ps = ps} {b = b} {bs = bs} c is tu st) h = λ path j j0 j1 f F re. bent v p b bs f F re c is tu ps st h (after st (onward p ps h)) path j j0 j1
+    after (pass {p = p} {ps = ps} c st) h = λ path j j0 j1 f F re. reach st (after st (onward-next N e p ps h)) path (spot D p j) f F re
+    after (bend-at {v = v} {p = p} {ps = ps} {b = b} {bs = bs} c is tu st) h = λ path j j0 j1 f F re. bent v p b bs f F re c is tu ps st h (after st (onward-next N e p ps h)) path j j0 j1
 
     -- the length of a string
     abbrev span : Vec A → List (Bend A) → A
     span s bs = measure (s ⟶ aim N e bs) + rest bs
 
     -- the theorem
-    shortest : (s : Vec A) (ps : List (Portal A)) (bs : List (Bend A)) → Onward ps → Thread N e s ps bs → (path : Path D ps) → Nn N (tour path (scaled N D s) - D * span s bs)
+    shortest : (s : Vec A) (ps : List (Portal A)) (bs : List (Bend A)) → Onward N e ps → Thread N e s ps bs → (path : Path D ps) → Nn N (tour path (scaled N D s) - D * span s bs)
     unfolding Least
     shortest s ps bs h st path =
         let w : Vec A = aim N e bs in
         let f : Vec A = best (s ⟶ w) in
         subst (λ m. Nn N (tour path (scaled N D s) - D * (m + rest bs))) (reached (s ⟶ w))
         (nn-eq K (start s w f (tour path (scaled N D s)) D (rest bs)) (reach st (after st h) path (scaled N D s) f (is-form (s ⟶ w)) (reached (s ⟶ w))))
-
-    onward-of : (s : Vec A) (ps : List (Portal A)) → Sleeve N s ps e → Onward ps
-    unfolding Onward
-    onward-of s [] h = tt
-    onward-of s (p ∷ ps) h = h .1
 
     span-is : (s : Vec A) (bs : List (Bend A)) → span s bs ≡ along N measure s (corners N bs ++ (e ∷ []))
     unfolding _⇢_
@@ -284,4 +270,4 @@ module _ (K : OrderedRing) where
   shortness fs measure G s e ps bs h st D js marks =
       subst (λ m. Nn N (m - whole N D * along N measure s (corners N bs ++ (e ∷ [])))) (tour-is fs measure G D e ps js marks (times-over N D s))
       (subst (λ m. Nn N (tour fs measure G (whole N D) e (to-path D ps js marks) (times-over N D s) - whole N D * m)) (span-is fs measure G (whole N D) e s bs)
-      (shortest fs measure G (whole N D) e s ps bs (onward-of fs measure G (whole N D) e s ps h) (to-taut N st .thread) (to-path D ps js marks)))
+      (shortest fs measure G (whole N D) e s ps bs (onward-of N s e ps h) (to-taut N st .thread) (to-path D ps js marks)))

@@ -4,7 +4,7 @@ use mathlib.Core.Path.{_≡_, refl}
 use mathlib.Core.List.{List, [], _∷_}
 use Rattle.algebra.specs.Arithmetic.{Arithmetic}
 use Rattle.algebra.specs.Plane.{Vec}
-use Rattle.taut.specs.Sleeve.{Portal, end}
+use Rattle.taut.specs.Sleeve.{Portal, end, Ahead, Sleeve}
 use Rattle.taut.specs.TautString.{Bend, Crosses, Turns, aim, Stretched}
 
 module _ (N : Arithmetic) where
@@ -30,3 +30,16 @@ module _ (N : Arithmetic) where
   pub record Taut (s : Vec A) (ps : List (Portal A)) (e : Vec A) (bs : List (Bend A)) : Type 0 where
     pub thread : Thread e s ps bs
     pub stretched : Stretched N s ps bs e
+
+  -- what lies before a string at a portal, or behind the last
+  abbrev pub Onward : Vec A → List (Portal A) → Type 0
+  Onward e [] = Unit {0}
+  Onward e (p ∷ ps) = Ahead N e p ps
+
+  pub onward-next : (e : Vec A) (p : Portal A) (ps : List (Portal A)) → Ahead N e p ps → Onward e ps
+  onward-next e p [] h = tt
+  onward-next e p (q ∷ ps) h = h .1
+
+  pub onward-of : (s e : Vec A) (ps : List (Portal A)) → Sleeve N s ps e → Onward e ps
+  onward-of s e [] h = tt
+  onward-of s e (p ∷ ps) h = h .1

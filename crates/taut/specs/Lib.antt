@@ -5,3 +5,4 @@ pub mod Lengths
 pub mod Funnel
 pub mod Laws
 pub mod SheetStrings
+pub mod Backwards

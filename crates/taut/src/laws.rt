@@ -1,5 +1,6 @@
 // Theorems on the taut string, each on a contract so that its proof is asked for.
 ghost use Rattle.taut.specs.Laws.{Shortness, Existence, Uniqueness, FanOrder, FanParts, PortalOrder};
+ghost use Rattle.taut.specs.Backwards.{Backwards};
 ghost use Rattle.taut.specs.SheetStrings.{SheetStrings};
 
 // No path through the portals is shorter than the taut string, under any gauge.
@@ -40,6 +41,13 @@ pub fn fan_parts_stand() -> u8
 // What crosses portals meets them in their order.
 pub fn portal_order_stands() -> u8
     ensures { λ _. ⌜ PortalOrder ⌝ }
+{
+    0
+}
+
+// A sleeve read backwards, and its string.
+pub fn backwards_stand() -> u8
+    ensures { λ _. ⌜ Backwards ⌝ }
 {
     0
 }
