@@ -12,6 +12,7 @@ pub mod FanParts
 pub mod FanOrder
 pub mod Parting
 pub mod Parted
+pub mod Facing
 pub mod Common
 pub mod Uniqueness
 pub mod Settling

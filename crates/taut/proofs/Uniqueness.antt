@@ -22,6 +22,7 @@ use Rattle.taut.proofs.IndexForm.{to-taut}
 use Rattle.taut.proofs.Along.{along-both, axes}
 use Rattle.taut.proofs.Parting.{In-front, bent-near, bent-new}
 use Rattle.taut.proofs.Parted.{delay, Pair, waits, parts, aparts}
+use Rattle.taut.proofs.Facing.{all-faces}
 use Rattle.taut.proofs.Common.{nn-zero, Common, turned, clear, onward}
 
 pub same-bend : {A : Type 0} {b b′ : Bend A} {bs bs′ : List (Bend A)} → b .side ≡ b′ .side → b .vertex ≡ b′ .vertex → bs ≡ bs′ → (b ∷ bs) ≡ (b′ ∷ bs′)
@@ -48,12 +49,6 @@ module _ (K : OrderedRing) (e : Vec (K .numbers .carrier)) where
   fore-other : (t : Side) (p : Portal A) (z : Vec A) → In-front K t p z → In-front K (other t) p z
   fore-other Left p z f = pos-eq K (cyc K Left (p .left .point) (p .right .point) z) f
   fore-other Right p z f = pos-eq K (cyc K Right (p .right .point) (p .left .point) z) f
-
-  all-faces : (t : Side) (q : Portal A) (x : Vec A) → Nn N (veer N t (x ⟶ end (other t) q .point) (x ⟶ end t q .point)) → (s : Side) → Nn N (veer N s (x ⟶ end (other s) q .point) (x ⟶ end s q .point))
-  all-faces Left q x n Left = n
-  all-faces Left q x n Right = n
-  all-faces Right q x n Left = n
-  all-faces Right q x n Right = n
 
   -- the other string, seen from a bend
   beside : (t : Side) (p : Portal A) (x w′ : Vec A) (b : Bend A) → b .side ≡ t → end (b .side) p ≡ b .vertex → Crosses N x w′ p → Nn N (veer N t (x ⟶ w′) (x ⟶ b .vertex .point))
@@ -99,7 +94,7 @@ module _ (K : OrderedRing) (e : Vec (K .numbers .carrier)) where
           h = v ⟶ f;
           on = pos-eq K (sym (swap K t (f ⟶ w) (v ⟶ f))) tu;
           on′ = pos-eq K (sym (swap K t (f ⟶ w′) (v ⟶ f))) tu′;
-          faces = all-faces t q f (subst (λ m. Nn N (veer N t (f ⟶ m .point) (f ⟶ z))) (sym kept) (nn-pos K fr));
+          faces = all-faces K t q f (subst (λ m. Nn N (veer N t (f ⟶ m .point) (f ⟶ z))) (sym kept) (nn-pos K fr));
           ahead = new w tu cq;
           ahead′ = new w′ tu′ cq′;
         }
@@ -114,7 +109,7 @@ module _ (K : OrderedRing) (e : Vec (K .numbers .carrier)) where
           h = v ⟶ o;
           on = pos-eq K (swap K t (v ⟶ o) (o ⟶ w)) tu;
           on′ = pos-eq K (swap K t (v ⟶ o) (o ⟶ w′)) tu′;
-          faces = all-faces t q o (nn-zero K (still K t o (o ⟶ z)));
+          faces = all-faces K t q o (nn-zero K (still K t o (o ⟶ z)));
           ahead = new w;
           ahead′ = new w′;
         }
@@ -224,7 +219,7 @@ module _ (K : OrderedRing) (e : Vec (K .numbers .carrier)) where
       let r : Vec A = p .right .point in
       let h : Pos (veer N Left (s ⟶ r) (s ⟶ l)) = pos-eq K (behind-is K l r s) bh in
       let ends : (u : Vec A) (t : Side) → veer N t (s ⟶ u) (s ⟶ end t p .point) ≡ 𝟘 → Nn N (veer N Right (s ⟶ end t p .point) (l ⟶ r)) = λ u. both Left (λ t. veer N t (s ⟶ u) (s ⟶ end t p .point) ≡ 𝟘 → Nn N (veer N Right (s ⟶ end t p .point) (l ⟶ r))) (λ k. nn-pos K (pos-eq K (left-end K l r s) h)) (λ k. nn-pos K (pos-eq K (right-end K l r s) h)) in
-      record { side = Right; h = l ⟶ r; on = goes p s w h c ne; on′ = goes p s w′ h c′ ne′; faces = all-faces Left p s (nn-pos K h); ahead = ends w; ahead′ = ends w′ }
+      record { side = Right; h = l ⟶ r; on = goes p s w h c ne; on′ = goes p s w′ h c′ ne′; faces = all-faces K Left p s (nn-pos K h); ahead = ends w; ahead′ = ends w′ }
 
   -- for threads
   pub unique : (s : Vec A) (ps : List (Portal A)) (bs bs′ : List (Bend A)) → Sleeve N s ps e → Taut N s ps e bs → Taut N s ps e bs′ → bs ≡ bs′
