@@ -14,12 +14,12 @@ use Rattle.algebra.proofs.OrderedRing.{OrderedRing, base, pos-eq, nn-eq, clash,
 use Rattle.algebra.proofs.PlaneSolver.{_:×_, ringV}
 use Rattle.taut.specs.declared.Side.{Side}
 use Rattle.taut.specs.declared.Side.the-variants.{Left, Right}
-use Rattle.taut.specs.Sleeve.{other, Portal, end, veer, Front, Behind, Keeps, Link, Ahead, Sleeve}
+use Rattle.taut.specs.Sleeve.{other, Portal, end, veer, Front, Behind, Link, Ahead, Sleeve}
 use Rattle.taut.specs.TautString.{Bend, Crosses, Turns, aim, Stretched, TautString}
 use Rattle.taut.specs.Backwards.{back-portal, backward, back-bend, backward-bends}
 use Rattle.taut.proofs.Sides.{which, both}
-use Rattle.taut.proofs.Veer.{swap, back, cyc, at-head}
-use Rattle.taut.proofs.Portals.{keeps, front-from, starts-zero}
+use Rattle.taut.proofs.Veer.{swap, back, at-head}
+use Rattle.taut.proofs.Portals.{keeps, front-from, starts-zero, behind-replaced}
 use Rattle.taut.proofs.Thread.{Thread, arrive, pass, bend-at, Onward, onward-next, onward-of}
 use Rattle.taut.proofs.IndexForm.{to-taut, of-taut}
 
@@ -63,14 +63,8 @@ module _ (K : OrderedRing) where
 
   -- ---- a sleeve read backwards
   link-back : (p q : Portal A) → Link N p q → Link N (back-portal q) (back-portal p)
-  link-back p q (inl k) = inr (sym (k .0), behind-back q (p .right .point) (behind-next Left p q k), λ is. k .2 (sym is))
-    where
-      behind-next : (t : Side) (p q : Portal A) → Keeps N Left p q → Behind N q (p .right .point)
-      behind-next t p q k = subst (λ m. Pos (veer N Right (m .point ⟶ q .right .point) (m .point ⟶ p .right .point))) (sym (k .0)) (k .1)
-  link-back p q (inr k) = inl (sym (k .0), behind-back q (p .left .point) (subst (λ m. Pos (veer N Right (q .left .point ⟶ m .point) (q .left .point ⟶ p .left .point))) (sym (k .0)) (pos-eq K (behind-from (p .left .point) (p .right .point) (q .left .point)) (k .1))), λ is. k .2 (sym is))
-    where
-      behind-from : (f o x : Vec A) → veer N Left (f ⟶ o) (f ⟶ x) ≡ veer N Right (x ⟶ o) (x ⟶ f)
-      behind-from f o x = sym (cyc K Left x f o) ∙ refl
+  link-back p q (inl k) = inr (sym (k .0), behind-back q (p .right .point) (behind-replaced K Right p q k), λ is. k .2 (sym is))
+  link-back p q (inr k) = inl (sym (k .0), behind-back q (p .left .point) (behind-replaced K Left p q k), λ is. k .2 (sym is))
 
   ahead-back : (s e : Vec A) (ps : List (Portal A)) (p : Portal A) (acc : List (Portal A)) → Ahead N e p ps → Ahead N s (back-portal p) acc → Sleeve N e (reverseAux (map back-portal ps) (back-portal p ∷ acc)) s
   ahead-back s e [] p acc h b = (front-back p e h, b)

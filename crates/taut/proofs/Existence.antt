@@ -8,7 +8,7 @@ use native.Mathlib.Omega.{arith}
 use lib.Dec.{T, eqb, eqb→eq, eqb-refl}
 use Rattle.algebra.specs.Arithmetic.{Ops, OrderLaws, Arithmetic, Nn}
 use Rattle.algebra.specs.Plane.{Vec, less, _⊗_, _⟶_ as _⇢_}
-use Rattle.algebra.proofs.RingSolver.{CommRing, :0, _:-_, :-_, _:=_, E, order}
+use Rattle.algebra.proofs.RingSolver.{CommRing, _:-_, :-_, _:=_, E, order}
 use Rattle.algebra.proofs.OrderedRing.{OrderedRing, base, pos-eq, nn-eq, clash, nn-pos, sign}
 use Rattle.algebra.proofs.PlaneSolver.{_:×_, ringV}
 use Rattle.algebra.specs.declared.Sign.{Sign}
@@ -19,6 +19,7 @@ use Rattle.taut.specs.TautString.{Bend, Crosses, Turns, aim, Stretched, TautSt
 use Rattle.taut.specs.Fan.{Within, opposite, Later-rounds, FanBound}
 use Rattle.taut.specs.Funnel.{Funnel, bends, Signs, next, settle, gain, widen, funnel-at, funnel}
 use Rattle.taut.proofs.Veer.{swap, still, to-apex, behind-is}
+use Rattle.taut.proofs.Along.{flipped}
 use Rattle.taut.proofs.Portals.{front, ends-zero, starts-zero, crosses}
 use Rattle.taut.proofs.Thread.{Thread, arrive, pass, bend-at, Taut}
 use Rattle.taut.proofs.IndexForm.{of-taut}
@@ -48,14 +49,9 @@ module _ (K : OrderedRing) (e : Vec (K .numbers .carrier)) where
   v ⟶ w = _⇢_ N v w
 
   -- ---- the sides of a funnel exchanged
-  flipped : (t : Side) (a h : Vec A) → veer N t a h ≡ veer N (other t) a (opposite N h)
-  unfolding _⊗_
-  flipped Left = ringV R 2 0 (λ a h. a :× h := less E (record { x = :0; y = :0 }) h :× a) refl
-  flipped Right = ringV R 2 0 (λ a h. h :× a := a :× less E (record { x = :0; y = :0 }) h) refl
-
   flip-wedge : (t : Side) (a z : Vec A) → Wedge K t a z → Wedge K (other t) z a
   flip-wedge t a z (open′ h) = open′ (pos-eq K (sym (swap K t z a)) h)
-  flip-wedge t a z (shut q h ah zh) = shut (swap K t z a ∙ q) (opposite N h) (pos-eq K (flipped t z h) zh) (pos-eq K (flipped t a h) ah)
+  flip-wedge t a z (shut q h ah zh) = shut (swap K t z a ∙ q) (opposite N h) (pos-eq K (flipped K t z h) zh) (pos-eq K (flipped K t a h) ah)
 
   to-right : (p : Portal A) (ps : List (Portal A)) (fb : List (Bend A)) (cs ds : List (Vertex A)) → Open K e Left p ps fb cs ds → Open K e Right p ps fb ds cs
   to-right p ps fb cs ds o = record { rest = o .rest; front = o .front; stem = o .stem; all = o .all; two = record { near = o .two .far; far = o .two .near; gap = flip-wedge Left (last K (p .left .point) cs ⟶ aim N e fb) (last K (p .right .point) ds ⟶ aim N e fb) (o .two .gap) } }

@@ -15,6 +15,7 @@ pub mod Parted
 pub mod Facing
 pub mod Common
 pub mod Uniqueness
+pub mod PieceOrder
 pub mod Settling
 pub mod FrontLemma
 pub mod Chains

@@ -14,7 +14,7 @@ use Rattle.taut.specs.declared.Side.the-variants.{Left, Right}
 use Rattle.taut.specs.Sleeve.{other, Portal, end, veer, Front, Behind, Ahead, Sleeve}
 use Rattle.taut.specs.TautString.{Bend, Crosses, Turns, aim, Stretched, TautString}
 use Rattle.taut.specs.Fan.{origin, ends}
-use Rattle.taut.proofs.Veer.{swap, back, still, from-head, to-foot, cyc, behind-is, left-end, right-end, through-portal}
+use Rattle.taut.proofs.Veer.{swap, back, still, from-head, to-foot, cyc, behind-is, left-end, right-end, sum-through}
 use Rattle.taut.proofs.Sides.{which, side-of, both}
 use Rattle.taut.proofs.Portals.{front, on-line}
 use Rattle.taut.proofs.Thread.{Thread, arrive, pass, bend-at, crossing, first-turn, Taut}
@@ -203,7 +203,7 @@ module _ (K : OrderedRing) (e : Vec (K .numbers .carrier)) where
 
   goes : (p : Portal A) (s w : Vec A) → Pos (veer N Left (s ⟶ p .right .point) (s ⟶ p .left .point)) → Crosses N s w p → ¬ (s ≡ w) → Pos (veer N Right (s ⟶ w) (p .left .point ⟶ p .right .point))
   goes p s w h c ne = elim (nn-split K (nn-add K (c Right) (c Left))) [
-    | inl g ↦ pos-eq K (through-portal K (p .left .point) (p .right .point) s w) g
+    | inl g ↦ pos-eq K (sum-through K (p .left .point) (p .right .point) s (s ⟶ w)) g
     | inr z ↦
         let two : (veer N Right (s ⟶ w) (s ⟶ p .right .point) ≡ 𝟘) × (veer N Left (s ⟶ w) (s ⟶ p .left .point) ≡ 𝟘) = nn-both K (c Right) (c Left) z in
         absurd (ne (stands (p .left .point) (p .right .point) s w h (two .0) (two .1)))

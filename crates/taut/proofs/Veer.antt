@@ -230,6 +230,6 @@ module _ (K : OrderedRing) where
   unfolding _⊗_ _⇢_
   right-end = ringV R 3 0 (λ l r s. less E r s :× less E l s := less E r l :× less E r s) refl
 
-  pub through-portal : (l r s w : Vec A) → veer N Right (s ⟶ w) (s ⟶ r) + veer N Left (s ⟶ w) (s ⟶ l) ≡ veer N Right (s ⟶ w) (l ⟶ r)
+  pub sum-through : (l r x d : Vec A) → veer N Right d (x ⟶ r) + veer N Left d (x ⟶ l) ≡ veer N Right d (l ⟶ r)
   unfolding _⊗_ _⇢_
-  through-portal = ringV R 4 0 (λ l r s w. less E r s :× less E w s :+ less E w s :× less E l s := less E r l :× less E w s) refl
+  sum-through = ringV R 4 0 (λ l r x d. less E r x :× d :+ d :× less E l x := less E r l :× d) refl
