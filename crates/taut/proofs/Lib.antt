@@ -28,4 +28,6 @@ pub mod ApexOnPortal
 pub mod Existence
 pub mod PortalOrder
 pub mod Backwards
+pub mod Fork
+pub mod EqualBends
 pub mod AtNumbers
