@@ -3,11 +3,12 @@ use mathlib.Core.Path.{refl}
 use Rattle.algebra.specs.Number.{quadratics, sign}
 use Rattle.algebra.proofs.Quadratics.{quadratic-ring, signs-say}
 use Rattle.taut.specs.Fan.{opposite}
-use Rattle.taut.specs.Laws.{Shortness, Existence, Uniqueness, FanOrder, FanParts, PortalOrder}
+use Rattle.taut.specs.Laws.{Shortness, Shortcut, Existence, Uniqueness, FanOrder, FanParts, PortalOrder}
 use Rattle.taut.specs.Backwards.{Backwards}
 use Rattle.taut.specs.EqualBends.{EqualBends}
 use Rattle.taut.specs.SheetStrings.{SheetStrings}
 use Rattle.taut.proofs.Shortness.{shortness}
+use Rattle.taut.proofs.Shortcut.{shortcut}
 use Rattle.taut.proofs.Existence.{existence}
 use Rattle.taut.proofs.Uniqueness.{uniqueness}
 use Rattle.taut.proofs.FanOrder.{not-again}
@@ -19,6 +20,9 @@ use Rattle.taut.proofs.EqualBends.{no-two, no-two-at-start, no-stop-before, no
 
 pub shortness-here : Shortness
 shortness-here fs measure G s e ps bs h st D js marks = record { gap = shortness quadratic-ring fs measure G s e ps bs h st D js marks }
+
+pub shortcut-here : Shortcut
+shortcut-here fs measure G x ys z y zs = record { gap = shortcut quadratic-ring fs measure G x ys z y zs }
 
 pub existence-here : Existence
 existence-here s e ps h b = existence quadratic-ring sign signs-say s e ps h b

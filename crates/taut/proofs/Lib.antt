@@ -6,6 +6,7 @@ pub mod IndexForm
 pub mod SwitchingLemma
 pub mod Wholes
 pub mod Shortness
+pub mod Shortcut
 pub mod Along
 pub mod FanLemma
 pub mod FanParts

@@ -1,5 +1,6 @@
 -- The laws of the taut string, at the numbers p + q√2.
 -- Shortness     every path through the portals of a sleeve measures, under every gauge, at least D times what its taut string measures
+-- Shortcut      a way that leaves out one of its points, other than the first and the last, measures no more under any gauge
 -- Existence     every sleeve whose runs make fans has a taut string: the bends that the funnel on lists finds
 -- Uniqueness    a sleeve has at most one taut string, whatever indices witness it
 -- FanOrder      a direction, its opposite and the direction again are not met in order in a fan
@@ -30,6 +31,9 @@ path-length measure D s ps js e = along quadratics measure (times-over quadratic
 
 abbrev pub Shortness : Type 0
 Shortness = (fs : List (Vec Number)) (measure : Vec Number → Number) → Gauge quadratics fs measure → (s e : Point) (ps : List (Portal Number)) (bs : List (Bend Number)) → Sleeve quadratics s ps e → TautString quadratics s ps e bs → (D : ℕ) (js : List ℕ) → Marks quadratics D ps js → AtMost (whole quadratics D ⊛ string-length measure s bs e) (path-length measure D s ps js e)
+
+abbrev pub Shortcut : Type 0
+Shortcut = (fs : List (Vec Number)) (measure : Vec Number → Number) → Gauge quadratics fs measure → (x : Point) (ys : List Point) (z y : Point) (zs : List Point) → AtMost (along quadratics measure x (ys ++ (y ∷ zs))) (along quadratics measure x (ys ++ (z ∷ y ∷ zs)))
 
 abbrev pub Existence : Type 0
 Existence = (s e : Point) (ps : List (Portal Number)) → Sleeve quadratics s ps e → FanBound quadratics s ps e → TautString quadratics s ps e (funnel quadratics sign s ps e)
