@@ -3,8 +3,8 @@
 use mathlib.Core.Path.{_≡_, refl, sym, ap, _∙_}
 use mathlib.Core.Logic.{inl, inr}
 use Rattle.algebra.specs.Arithmetic.{Ops, OrderLaws, Arithmetic, Nn}
-use Rattle.algebra.specs.Plane.{Vec, less, _⊗_}
-use Rattle.algebra.proofs.RingSolver.{CommRing, :0, :1, _:+_, _:-_, _:*_, :-_, _:=_, E, order, nil-mul, neg-nil, ring}
+use Rattle.algebra.specs.Plane.{Vec, less, _⊗_, _⟶_ as _⇢_}
+use Rattle.algebra.proofs.RingSolver.{CommRing, :0, :1, _:+_, _:-_, _:*_, :-_, _:=_, E, order, nil-mul, neg-nil, ring, sub-nil}
 use Rattle.algebra.proofs.OrderedRing.{OrderedRing, base, pos-eq, nn-eq, nn-split, pos-cancel, nn-cancel, signs, nil-cancel}
 use Rattle.algebra.proofs.PlaneSolver.{_:×_, ringV, same-vector}
 use Rattle.taut.specs.declared.Side.{Side}
@@ -70,3 +70,8 @@ module _ (K : OrderedRing) where
   unfolding _⊗_
   flipped Left = ringV R 2 0 (λ a h. a :× h := less E (record { x = :0; y = :0 }) h :× a) refl
   flipped Right = ringV R 2 0 (λ a h. h :× a := a :× less E (record { x = :0; y = :0 }) h) refl
+
+  -- a step between two points that differ goes somewhere
+  pub goes-somewhere : (s w : Vec A) → ¬ (s ≡ w) → ¬ ((_⇢_ N s w) ≡ origin N)
+  unfolding _⇢_
+  goes-somewhere s w ne is = ne (sym (same-vector R (sub-nil R (w .x) (s .x) (ap (λ u. u .x) is)) (sub-nil R (w .y) (s .y) (ap (λ u. u .y) is))))

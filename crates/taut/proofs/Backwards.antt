@@ -146,7 +146,7 @@ module _ (K : OrderedRing) where
           | inr off ↦
               use-skip n (omega arith) (λ qs. Done qs bs (back-portal p ∷ acc) (back-bend b ∷ cs)) (crossed-next v p ps b bs is tu h (pos-eq K (ap -_ (swap K (b .side) (w ⟶ aim N e bs) (w ⟶ o)) ∙ back K (b .side) (w ⟶ o) (w ⟶ aim N e bs)) off) on)
               (λ q qs le₂ is₂ c₂ on₂ h₂.
-                  back-on n (back-portal q ∷ back-portal p ∷ acc) (back-bend b ∷ cs) le₂ on₂ (onward-next N e q qs h₂) refl (bend-back v (aim N e bs) q b (back-portal p ∷ acc) cs at-v c₂ is₂ tu (pass-back v w p acc cs at-v c st))) (onward-next N e p ps h)
+              back-on n (back-portal q ∷ back-portal p ∷ acc) (back-bend b ∷ cs) le₂ on₂ (onward-next N e q qs h₂) refl (bend-back v (aim N e bs) q b (back-portal p ∷ acc) cs at-v c₂ is₂ tu (pass-back v w p acc cs at-v c st))) (onward-next N e p ps h)
         ]
 
   no-bends : (s e : Vec A) (qs : List (Portal A)) → ¬ (s ≡ e) → Stretched N e qs [] s

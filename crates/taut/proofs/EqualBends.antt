@@ -7,9 +7,8 @@ use mathlib.Core.List.{List, [], _∷_, _++_}
 use mathlib.Core.Logic.{inl, inr}
 use Rattle.algebra.specs.Arithmetic.{OrderLaws, Arithmetic, Nn}
 use Rattle.algebra.specs.Plane.{Vec, _⟶_ as _⇢_}
-use Rattle.algebra.proofs.RingSolver.{order, at, sub-nil}
-use Rattle.algebra.proofs.OrderedRing.{OrderedRing, base, pos-eq, nn-eq, nn-pos, signs}
-use Rattle.algebra.proofs.PlaneSolver.{same-vector}
+use Rattle.algebra.proofs.RingSolver.{order, at}
+use Rattle.algebra.proofs.OrderedRing.{OrderedRing, pos-eq, nn-eq, nn-pos, signs}
 use Rattle.taut.specs.declared.Side.{Side}
 use Rattle.taut.specs.declared.Side.the-variants.{Left, Right}
 use Rattle.taut.specs.Sleeve.{other, Portal, end, veer, Front, Behind, Keeps, Link, Ahead, Sleeve}
@@ -19,6 +18,7 @@ use Rattle.taut.proofs.Sides.{which}
 use Rattle.taut.proofs.Veer.{swap, three, from-head, cyc}
 use Rattle.taut.proofs.Portals.{keeps, front, front-from, behind-replaced}
 use Rattle.taut.proofs.Thread.{Thread, arrive, pass, bend-at, crossing, first-turn, Taut}
+use Rattle.taut.proofs.Along.{goes-somewhere}
 use Rattle.taut.proofs.Parted.{delay}
 use Rattle.taut.proofs.Fork.{Moves, moves-after, moves-before, never-behind, no-fork}
 
@@ -118,12 +118,8 @@ module _ (K : OrderedRing) (e : Vec (K .numbers .carrier)) where
     ends-early (c ∷ ps) p h₁ h₂ v bs₀ mv (pass c₁ st₁) (bend-at {b = b} {bs = bs} c₂ is₂ tu₂ st₂) = ends-early ps c (h₁ .1) (h₂ .1) v (b ∷ bs) mv st₁ (catch-up p c (ps ++ (q ∷ qs)) ps (h₂ .0) (h₁ .1) v b bs is₂ tu₂ st₂ st₁)
 
   -- ---- the strings of the sleeves
-  apart : (s w : Vec A) → ¬ (s ≡ w) → Moves K e s w
-  unfolding _⇢_
-  apart s w ne is = ne (sym (same-vector (base K) (sub-nil (base K) (w .x) (s .x) (ap (λ u. u .x) is)) (sub-nil (base K) (w .y) (s .y) (ap (λ u. u .y) is))))
-
   moving : (s : Vec A) (p : Portal A) (ps : List (Portal A)) (bs : List (Bend A)) → Taut N s (p ∷ ps) e bs → Moves K e s (aim N e bs)
-  moving s p ps [] h = apart s e (h .stretched)
+  moving s p ps [] h = goes-somewhere K s e (h .stretched)
   moving s p ps (b ∷ bs) h = moves-before K e (b .side) s (b .vertex .point) (aim N e bs) (first-turn N (h .thread))
 
   pub no-two : (s : Vec A) (bs : List (Bend A)) (p : Portal A) (ps : List (Portal A)) (q₁ q₂ : Portal A) (ps₁ ps₂ : List (Portal A)) → Fork N (last-portal p ps) q₁ q₂ → OneFan N e q₁ ps₁ q₂ ps₂

@@ -127,8 +127,8 @@ module _ (K : OrderedRing) (e : Vec (K .numbers .carrier)) where
     now-thread : Result K e z (p ∷ ps) (record { side = s; vertex = end s p } ∷ bb)
     now-thread = record { thread = bend-at (crosses K s z (end s p .point) p (ends-zero K s z (end s p .point) (end s p .point) refl) (nn-eq K (sym (swap K s (z ⟶ end s p .point) (z ⟶ end (other s) p .point))) (nn-pos K fr))) refl tu′ on; apart = tt }
 
-    inn₀ : Within N s (end s p .point ⟶ aim N e bb) (end s p .point ⟶ end (other s) p .point) (rays K e s (end s p .point) p ps h)
-    inn₀ = within K e s (end s p .point) p ps h refl bb on cr
+    in-run₀ : Within N s (end s p .point ⟶ aim N e bb) (end s p .point ⟶ end (other s) p .point) (rays K e s (end s p .point) p ps h)
+    in-run₀ = within K e s (end s p .point) p ps h refl bb on cr
 
     now : Within N s (end s p .point ⟶ aim N e bb) (end s p .point ⟶ z) (rays K e s (end s p .point) p₀ (p ∷ ps) (l, h)) → Flush K e s p₀ (p ∷ ps) (l, h) (end s p) bb
     now w = record {
@@ -141,7 +141,7 @@ module _ (K : OrderedRing) (e : Vec (K .numbers .carrier)) where
       first-round = (sym kept, nn-pos K tu′);
       arm = stop (crosses K s z (end s p .point) p₀ (ends-zero K s z (end s p .point) (end s p₀ .point) (ap (λ k. k .point) (sym kept))) (starts-zero K (other s) z (end s p .point)));
       turns = tu′;
-      inn = w;
+      in-run = w;
     }
 
   -- ---- the funnel at a portal, with the portals after it: its chains, each from the portal's end to the apex, and the final bends
@@ -182,7 +182,7 @@ module _ (K : OrderedRing) (e : Vec (K .numbers .carrier)) where
     left-next fb cs ds near rem fb′ o (still-open {ds′ = ds′} n) = (open-thread Left p₀ (p ∷ ps) fb′ near ds′ n, subst (λ m. State p₀ (p ∷ ps) (inr k, h) (p₀ .left ∷ near) fb′ (m ∷ ds′)) (sym (k .0)) (opens n))
     left-next fb cs ds near rem fb′ o (on-portal tu) = (
       now-thread Right fb (o .rest) p₀ p ps (o .front) ds h (inr k) (o .stem) (o .two .far) (o .all) (k .0) frₗ tu,
-      right-apex (now Right fb (o .rest) p₀ p ps (o .front) ds h (inr k) (o .stem) (o .two .far) (o .all) (k .0) frₗ tu (inr (inn₀ Right fb (o .rest) p₀ p ps (o .front) ds h (inr k) (o .stem) (o .two .far) (o .all) (k .0) frₗ tu))),
+      right-apex (now Right fb (o .rest) p₀ p ps (o .front) ds h (inr k) (o .stem) (o .two .far) (o .all) (k .0) frₗ tu (inr (in-run₀ Right fb (o .rest) p₀ p ps (o .front) ds h (inr k) (o .stem) (o .two .far) (o .all) (k .0) frₗ tu))),
     )
 
     pub left-step : (fb fb′ : List (Bend A)) (L R₁ near far : List (Vertex A)) → State p ps h L fb R₁ → Settled K e Left (p₀ .left .point) fb L R₁ near fb′ far → Lefts near fb′ far
@@ -198,7 +198,7 @@ module _ (K : OrderedRing) (e : Vec (K .numbers .carrier)) where
     left-step fb fb′ L R₁ near far (right-apex {m = m} {bs = bs} g) (hooks-on (stops-at tu)) = absurd (no-bend′ Left (p₀ .left .point) (m .point) (p .left .point) (subst (λ x. Pos (veer N Left (p₀ .left .point ⟶ x .point) (p₀ .left .point ⟶ p .left .point))) (g .is) frₗ) tu)
     left-step fb fb′ L R₁ near far (right-apex {m = m} {bs = bs} g) (looks (dropped un none-left) no-chain) = (
       flush-thread K e Right p ps h m bs g (p₀ .left .point) frₗ (f Right .1),
-      right-apex (stay K e Right p₀ p ps h (inr k) m bs g (k .0) frₗ (f Right .1) (inr (g .inn))),
+      right-apex (stay K e Right p₀ p ps h (inr k) m bs g (k .0) frₗ (f Right .1) (inr (g .in-run))),
     )
 
   -- ---- a new right end
@@ -211,7 +211,7 @@ module _ (K : OrderedRing) (e : Vec (K .numbers .carrier)) where
 
     right-next : (fb : List (Bend A)) (cs ds near rem : List (Vertex A)) (fb′ : List (Bend A)) → Open K e Right p ps fb ds cs → Next Right p₀ p ps fb cs near fb′ rem → Rights near fb′ rem
     right-next fb cs ds near rem fb′ o (still-open {ds′ = cs′} n) = subst (λ m. State p₀ (p ∷ ps) (inl k, h) (m ∷ cs′) fb′ (p₀ .right ∷ near)) (sym (k .0)) (opens (to-left p₀ (p ∷ ps) fb′ cs′ near n))
-    right-next fb cs ds near rem fb′ o (on-portal tu) = left-apex (now Left fb (o .rest) p₀ p ps (o .front) cs h (inl k) (o .stem) (o .two .far) (o .all) (k .0) frᵣ tu (inr (inn₀ Left fb (o .rest) p₀ p ps (o .front) cs h (inl k) (o .stem) (o .two .far) (o .all) (k .0) frᵣ tu)))
+    right-next fb cs ds near rem fb′ o (on-portal tu) = left-apex (now Left fb (o .rest) p₀ p ps (o .front) cs h (inl k) (o .stem) (o .two .far) (o .all) (k .0) frᵣ tu (inr (in-run₀ Left fb (o .rest) p₀ p ps (o .front) cs h (inl k) (o .stem) (o .two .far) (o .all) (k .0) frᵣ tu)))
 
     right-step : (fb fb′ : List (Bend A)) (L R₁ near far : List (Vertex A)) → State p ps h L fb R₁ → Settled K e Right (p₀ .right .point) fb R₁ L near fb′ far → Rights near fb′ far
     right-step fb fb′ L R₁ near far (opens {cs = cs} {ds = ds} o) se = let o′ : Open K e Right p ps fb ds cs = to-right p ps fb cs ds o in right-next fb cs ds near far fb′ o′ (stepped Right p₀ p ps fb ds cs o′ (k .0) frᵣ near far fb′ se)
@@ -221,7 +221,7 @@ module _ (K : OrderedRing) (e : Vec (K .numbers .carrier)) where
     right-step fb fb′ L R₁ near far (right-apex {m = m} {bs = bs} g) (looks none-left (passed no-chain tu)) = absurd (no-bend Right (p₀ .right .point) (p .left .point) (m .point) (subst (λ x. Pos (veer N Right (p₀ .right .point ⟶ p .left .point) (p₀ .right .point ⟶ x .point))) (g .is) frᵣ) tu)
     right-step fb fb′ L R₁ near far (right-apex {m = m} {bs = bs} g) (looks none-left (halts no-chain un)) = subst (λ x. State p₀ (p ∷ ps) (inl k, h) (x ∷ []) (record { side = Right; vertex = m } ∷ bs) (p₀ .right ∷ [])) (sym (k .0)) (opens (to-left p₀ (p ∷ ps) (record { side = Right; vertex = m } ∷ bs) [] [] (leave K e Right p₀ p ps h m bs g (k .0) frᵣ (f Right .1))))
     right-step fb fb′ L R₁ near far (left-apex {m = m} {bs = bs} g) (hooks-on (stops-at tu)) = absurd (no-bend′ Right (p₀ .right .point) (m .point) (p .right .point) (subst (λ x. Pos (veer N Right (p₀ .right .point ⟶ x .point) (p₀ .right .point ⟶ p .right .point))) (g .is) frᵣ) tu)
-    right-step fb fb′ L R₁ near far (left-apex {m = m} {bs = bs} g) (looks (dropped un none-left) no-chain) = left-apex (stay K e Left p₀ p ps h (inl k) m bs g (k .0) frᵣ (f Left .1) (inr (g .inn)))
+    right-step fb fb′ L R₁ near far (left-apex {m = m} {bs = bs} g) (looks (dropped un none-left) no-chain) = left-apex (stay K e Left p₀ p ps h (inl k) m bs g (k .0) frᵣ (f Left .1) (inr (g .in-run)))
 
   -- ---- the funnel at the last portal
   begin : (p : Portal A) → Front N p e → Open K e Left p [] [] [] []
@@ -264,7 +264,7 @@ module _ (K : OrderedRing) (e : Vec (K .numbers .carrier)) where
     widened p q ps (inl k) h f fans st =
         let g : Funnel A = settle N sign e Right (p .right .point) (reverse (f .far)) (f .final) (reverse (f .near)) in
         let se : Settled K e Right (p .right .point) (f .final) (reverse (f .far)) (f .near) (g .near) (g .final) (reverse (g .far)) =
-            subst (λ ns. Settled K e Right (p .right .point) (f .final) (reverse (f .far)) ns (g .near) (g .final) (reverse (g .far))) (reverse-reverse (f .near)) (settles K sign law e Right (p .right .point) (reverse (f .far)) (f .final) (reverse (f .near))) in
+        subst (λ ns. Settled K e Right (p .right .point) (f .final) (reverse (f .far)) ns (g .near) (g .final) (reverse (g .far))) (reverse-reverse (f .near)) (settles K sign law e Right (p .right .point) (reverse (f .far)) (f .final) (reverse (f .near))) in
         subst (Holds p (q ∷ ps) (inl k, h)) (sym (test-true (p .left .number) (q .left .number) (gain N sign e Right (p .right) f) (gain N sign e Left (p .left) f) (ap (λ v. v .number) (k .0))))
         (subst (λ ns. State p (q ∷ ps) (inl k, h) (reverse (g .far)) (g .final) ns) (sym (reverse-reverse (p .right ∷ g .near))) (right-step p q ps h k fans (f .final) (g .final) (f .near) (reverse (f .far)) (g .near) (reverse (g .far)) st se))
     widened p q ps (inr k) h f fans st =

@@ -214,7 +214,7 @@ module _ (K : OrderedRing) (e : Vec (K .numbers .carrier)) where
         let ul : Nn N (veer N Left (x ⟶ w) (x ⟶ l)) = from-x v x t h w (line t) dh xh Left (x ⟶ l) off-l in
         let ur : Nn N (veer N Right (x ⟶ w) (x ⟶ r)) = from-x v x t h w (line t) dh xh Right (x ⟶ r) off-r in
         let f : Fan N Left (reverse ((x ⟶ l) ∷ rays K e Right x q₁ ps₁ h₁) ++ ((x ⟶ r) ∷ rays K e Left x q₂ ps₂ h₂)) =
-            subst (λ u. Fan N Left (reverse ((x ⟶ l) ∷ rays K e Right x q₁ ps₁ h₁) ++ ((u ⟶ r) ∷ rays K e Left x q₂ ps₂ h₂))) at-x (fan (rays K e Right x q₁ ps₁ h₁) (rays K e Left x q₂ ps₂ h₂) (run-rays K e Right x q₁ ps₁ h₁ refl) (run-rays K e Left x q₂ ps₂ h₂ at-x)) in
+        subst (λ u. Fan N Left (reverse ((x ⟶ l) ∷ rays K e Right x q₁ ps₁ h₁) ++ ((u ⟶ r) ∷ rays K e Left x q₂ ps₂ h₂))) at-x (fan (rays K e Right x q₁ ps₁ h₁) (rays K e Left x q₂ ps₂ h₂) (run-rays K e Right x q₁ ps₁ h₁ refl) (run-rays K e Left x q₂ ps₂ h₂ at-x)) in
         round-x (x ⟶ w) (x ⟶ l) (x ⟶ r) (rays K e Right x q₁ ps₁ h₁) (rays K e Left x q₂ ps₂ h₂) (λ is. pos-nil (pos-eq K (no-turn-of t h) (subst (λ u. Pos (veer N t u h)) is xh))) f
         (meets-run Right x r q₁ ps₁ h₁ bs refl ur tri go₁) (meets-run Left x l q₂ ps₂ h₂ bs at-x ul tri go₂) ul ur
       where
@@ -230,12 +230,12 @@ module _ (K : OrderedRing) (e : Vec (K .numbers .carrier)) where
         let off-w : Pos (veer N t d (w ⟶ far)) = pos-eq K (away t far) off in
         elim (K .laws .order .trichotomy a) [
           | inl before ↦ never-reached K e ps q hq v bs (record {
-              side = t;
-              h = x ⟶ far;
-              on = off;
-              faces = all-faces K t q w (subst (λ u. Nn N (veer N t (w ⟶ u) (w ⟶ far))) (sym is) (nn-eq K (sym (from-head K t w x far)) (nn-pos K before)));
-              ahead = both t (λ s. veer N s d (w ⟶ end s q .point) ≡ 𝟘 → Pos (veer N t (w ⟶ end s q .point) (x ⟶ far))) (λ z. absurd (pos-nil (pos-eq K z off-w))) (λ z. subst (λ u. Pos (veer N t (w ⟶ u) (x ⟶ far))) (sym is) before);
-            }) st
+            side = t;
+            h = x ⟶ far;
+            on = off;
+            faces = all-faces K t q w (subst (λ u. Nn N (veer N t (w ⟶ u) (w ⟶ far))) (sym is) (nn-eq K (sym (from-head K t w x far)) (nn-pos K before)));
+            ahead = both t (λ s. veer N s d (w ⟶ end s q .point) ≡ 𝟘 → Pos (veer N t (w ⟶ end s q .point) (x ⟶ far))) (λ z. absurd (pos-nil (pos-eq K z off-w))) (λ z. subst (λ u. Pos (veer N t (w ⟶ u) (x ⟶ far))) (sym is) before);
+          }) st
           | inr (inl z) ↦ stops-at-x (at-w t (x ⟶ far) off z)
           | inr (inr after) ↦ beyond t (x ⟶ far) off (pos-eq K (turn-round K t w x (x ⟶ far)) after)
         ]

@@ -14,9 +14,9 @@ pub mod FanOrder
 pub mod Parting
 pub mod Parted
 pub mod Facing
+pub mod PieceOrder
 pub mod Common
 pub mod Uniqueness
-pub mod PieceOrder
 pub mod Settling
 pub mod FrontLemma
 pub mod Chains

@@ -101,7 +101,7 @@ module _ (K : OrderedRing) where
     never-reached ps p h v bs₀ b (bend-at {b = b₁} {bs = bs} c is tu st) = not-end v (b₁ .vertex .point) p b (b₁ .side) (ap (λ m. m .point) is)
 
   -- ---- what lies strictly behind a portal lies before it
-  goes-through : (p : Portal A) (x d : Vec A) → Pos (veer N Left (x ⟶ p .right .point) (x ⟶ p .left .point)) → Ray-crosses x d p → ¬ (d ≡ origin N) → Pos (veer N Right d (p .left .point ⟶ p .right .point))
+  pub goes-through : (p : Portal A) (x d : Vec A) → Pos (veer N Left (x ⟶ p .right .point) (x ⟶ p .left .point)) → Ray-crosses x d p → ¬ (d ≡ origin N) → Pos (veer N Right d (p .left .point ⟶ p .right .point))
   goes-through p x d h c ne = elim (nn-split K (nn-add K (c Right) (c Left))) [
     | inl g ↦ pos-eq K (sum-through K (p .left .point) (p .right .point) x d) g
     | inr z ↦

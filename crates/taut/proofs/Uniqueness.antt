@@ -6,23 +6,23 @@ use mathlib.Core.List.{List, [], _∷_}
 use mathlib.Core.Logic.{inl, inr}
 use Rattle.algebra.specs.Arithmetic.{Ops, OrderLaws, Arithmetic, Nn}
 use Rattle.algebra.specs.Plane.{Vec, _⟶_ as _⇢_}
-use Rattle.algebra.proofs.RingSolver.{CommRing, none, order, sub-nil}
-use Rattle.algebra.proofs.OrderedRing.{OrderedRing, base, pos-eq, nn-eq, nn-pos, nn-split, sign, nn-add, nn-both}
-use Rattle.algebra.proofs.PlaneSolver.{same-vector}
+use Rattle.algebra.proofs.RingSolver.{CommRing, none, order}
+use Rattle.algebra.proofs.OrderedRing.{OrderedRing, base, pos-eq, nn-eq, nn-pos, sign}
 use Rattle.taut.specs.declared.Side.{Side}
 use Rattle.taut.specs.declared.Side.the-variants.{Left, Right}
 use Rattle.taut.specs.Sleeve.{other, Portal, end, veer, Front, Behind, Ahead, Sleeve}
 use Rattle.taut.specs.TautString.{Bend, Crosses, Turns, aim, Stretched, TautString}
-use Rattle.taut.specs.Fan.{origin, ends}
-use Rattle.taut.proofs.Veer.{swap, back, still, from-head, to-foot, cyc, behind-is, left-end, right-end, sum-through}
+use Rattle.taut.specs.Fan.{ends}
+use Rattle.taut.proofs.Veer.{swap, back, still, from-head, to-foot, cyc, behind-is, left-end, right-end}
 use Rattle.taut.proofs.Sides.{which, side-of, both}
 use Rattle.taut.proofs.Portals.{front, on-line}
 use Rattle.taut.proofs.Thread.{Thread, arrive, pass, bend-at, crossing, first-turn, Taut}
 use Rattle.taut.proofs.IndexForm.{to-taut}
-use Rattle.taut.proofs.Along.{along-both, axes}
+use Rattle.taut.proofs.Along.{goes-somewhere}
 use Rattle.taut.proofs.Parting.{In-front, bent-near, bent-new}
 use Rattle.taut.proofs.Parted.{delay, Pair, waits, parts, aparts}
 use Rattle.taut.proofs.Facing.{all-faces}
+use Rattle.taut.proofs.PieceOrder.{goes-through}
 use Rattle.taut.proofs.Common.{nn-zero, Common, turned, clear, onward}
 
 pub same-bend : {A : Type 0} {b b′ : Bend A} {bs bs′ : List (Bend A)} → b .side ≡ b′ .side → b .vertex ≡ b′ .vertex → bs ≡ bs′ → (b ∷ bs) ≡ (b′ ∷ bs′)
@@ -194,21 +194,6 @@ module _ (K : OrderedRing) (e : Vec (K .numbers .carrier)) where
     | inr k ↦ next Left p q ps (k .0) (front K Left p (q .left .point) (k .1)) (λ s. aparts K e s ps q (h .1)) (agree ps q (h .1)) x bs bs′ cm one two
   ]
 
-  -- a piece that crosses a portal and does not go through it goes nowhere
-  stands : (l r s w : Vec A) → Pos (veer N Left (s ⟶ r) (s ⟶ l)) → veer N Right (s ⟶ w) (s ⟶ r) ≡ 𝟘 → veer N Left (s ⟶ w) (s ⟶ l) ≡ 𝟘 → s ≡ w
-  unfolding _⇢_
-  stands l r s w h a b =
-      let is : (s ⟶ w) ≡ origin N = axes K Left (s ⟶ w) (λ x. along-both K Left (s ⟶ r) (s ⟶ l) (s ⟶ w) x h a b) in
-      same-vector R (sym (sub-nil R (w .x) (s .x) (ap (λ v. v .x) is))) (sym (sub-nil R (w .y) (s .y) (ap (λ v. v .y) is)))
-
-  goes : (p : Portal A) (s w : Vec A) → Pos (veer N Left (s ⟶ p .right .point) (s ⟶ p .left .point)) → Crosses N s w p → ¬ (s ≡ w) → Pos (veer N Right (s ⟶ w) (p .left .point ⟶ p .right .point))
-  goes p s w h c ne = elim (nn-split K (nn-add K (c Right) (c Left))) [
-    | inl g ↦ pos-eq K (sum-through K (p .left .point) (p .right .point) s (s ⟶ w)) g
-    | inr z ↦
-        let two : (veer N Right (s ⟶ w) (s ⟶ p .right .point) ≡ 𝟘) × (veer N Left (s ⟶ w) (s ⟶ p .left .point) ≡ 𝟘) = nn-both K (c Right) (c Left) z in
-        absurd (ne (stands (p .left .point) (p .right .point) s w h (two .0) (two .1)))
-  ]
-
   moving : (s : Vec A) (p : Portal A) (ps : List (Portal A)) (bs : List (Bend A)) → Thread N e s (p ∷ ps) bs → Stretched N s (p ∷ ps) bs e → ¬ (s ≡ aim N e bs)
   moving s p ps [] st h = h
   moving s p ps (b ∷ bs) st h = λ q. pos-nil (pos-eq K (still K (b .side) (b .vertex .point) (b .vertex .point ⟶ aim N e bs)) (subst (λ u. Pos (veer N (b .side) (u ⟶ b .vertex .point) (b .vertex .point ⟶ aim N e bs))) q (first-turn N st)))
@@ -219,7 +204,7 @@ module _ (K : OrderedRing) (e : Vec (K .numbers .carrier)) where
       let r : Vec A = p .right .point in
       let h : Pos (veer N Left (s ⟶ r) (s ⟶ l)) = pos-eq K (behind-is K l r s) bh in
       let ends : (u : Vec A) (t : Side) → veer N t (s ⟶ u) (s ⟶ end t p .point) ≡ 𝟘 → Nn N (veer N Right (s ⟶ end t p .point) (l ⟶ r)) = λ u. both Left (λ t. veer N t (s ⟶ u) (s ⟶ end t p .point) ≡ 𝟘 → Nn N (veer N Right (s ⟶ end t p .point) (l ⟶ r))) (λ k. nn-pos K (pos-eq K (left-end K l r s) h)) (λ k. nn-pos K (pos-eq K (right-end K l r s) h)) in
-      record { side = Right; h = l ⟶ r; on = goes p s w h c ne; on′ = goes p s w′ h c′ ne′; faces = all-faces K Left p s (nn-pos K h); ahead = ends w; ahead′ = ends w′ }
+      record { side = Right; h = l ⟶ r; on = goes-through K p s (s ⟶ w) h c (goes-somewhere K s w ne); on′ = goes-through K p s (s ⟶ w′) h c′ (goes-somewhere K s w′ ne′); faces = all-faces K Left p s (nn-pos K h); ahead = ends w; ahead′ = ends w′ }
 
   -- for threads
   pub unique : (s : Vec A) (ps : List (Portal A)) (bs bs′ : List (Bend A)) → Sleeve N s ps e → Taut N s ps e bs → Taut N s ps e bs′ → bs ≡ bs′
