@@ -17,6 +17,7 @@ pub mod Facing
 pub mod PieceOrder
 pub mod Common
 pub mod Uniqueness
+pub mod Popping
 pub mod Settling
 pub mod FrontLemma
 pub mod Chains
