@@ -4,7 +4,7 @@ use mathlib.Core.Path.{_≡_, refl, sym, ap, _∙_}
 use mathlib.Core.Logic.{inl, inr}
 use Rattle.algebra.specs.Arithmetic.{Ops, OrderLaws, Arithmetic, Nn}
 use Rattle.algebra.specs.Plane.{Vec, less, _⊗_, _⟶_ as _⇢_}
-use Rattle.algebra.proofs.RingSolver.{CommRing, :0, :1, _:+_, _:-_, _:*_, :-_, _:=_, E, order, nil-mul, neg-nil, ring, sub-nil}
+use Rattle.algebra.proofs.RingSolver.{CommRing, :0, :1, _:+_, _:-_, _:*_, :-_, _:=_, E, nil-mul, neg-nil, ring, sub-nil}
 use Rattle.algebra.proofs.OrderedRing.{OrderedRing, base, pos-eq, nn-eq, nn-split, pos-cancel, nn-cancel, signs, nil-cancel}
 use Rattle.algebra.proofs.PlaneSolver.{_:×_, ringV, same-vector}
 use Rattle.taut.specs.declared.Side.{Side}

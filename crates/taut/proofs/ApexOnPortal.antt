@@ -11,7 +11,7 @@ use Rattle.taut.specs.Sleeve.{other, Vertex, Portal, end, veer, Link, Ahead}
 use Rattle.taut.specs.TautString.{Bend, Crosses, Turns, aim}
 use Rattle.taut.specs.Fan.{Clear, Within}
 use Rattle.taut.proofs.Veer.{swap, in-order′, cyc, from-apex, to-apex, about}
-use Rattle.taut.proofs.Portals.{front, ends-zero, starts-zero, crosses}
+use Rattle.taut.proofs.Portals.{ends-zero, starts-zero, crosses}
 use Rattle.taut.proofs.Thread.{Thread}
 use Rattle.taut.proofs.FanLemma.{fan}
 use Rattle.taut.proofs.Runs.{rays, sweep}

@@ -9,7 +9,7 @@ use native.Mathlib.Omega.{arith}
 use lib.ListN.{length}
 use Rattle.algebra.specs.Arithmetic.{Ops, OrderLaws, Arithmetic, Nn}
 use Rattle.algebra.specs.Plane.{Vec, less, _⊗_, _⟶_ as _⇢_}
-use Rattle.algebra.proofs.RingSolver.{_:=_, E, order}
+use Rattle.algebra.proofs.RingSolver.{_:=_, E}
 use Rattle.algebra.proofs.OrderedRing.{OrderedRing, base, pos-eq, nn-eq, clash, sign}
 use Rattle.algebra.proofs.PlaneSolver.{_:×_, ringV}
 use Rattle.taut.specs.declared.Side.{Side}

@@ -5,7 +5,7 @@ use mathlib.Core.Path.{_≡_, refl, sym, ap, _∙_, subst}
 use mathlib.Core.List.{List, [], _∷_, _++_}
 use Rattle.algebra.specs.Arithmetic.{Ops, OrderLaws, Arithmetic, Nn}
 use Rattle.algebra.specs.Plane.{Vec, less, _⊗_, _⟶_ as _⇢_}
-use Rattle.algebra.proofs.RingSolver.{CommRing, :0, _:=_, E, order}
+use Rattle.algebra.proofs.RingSolver.{CommRing, :0, _:=_, E}
 use Rattle.algebra.proofs.OrderedRing.{OrderedRing, base, pos-eq, nn-eq, nn-pos, nn-nil, nn-add, nn-cancel, signs}
 use Rattle.algebra.proofs.PlaneSolver.{_:×_, ringV}
 use Rattle.taut.specs.declared.Side.{Side}

@@ -8,8 +8,8 @@ use native.Mathlib.Omega.{arith}
 use lib.Dec.{T, eqb, eqb→eq, eqb-refl}
 use Rattle.algebra.specs.Arithmetic.{Ops, OrderLaws, Arithmetic, Nn}
 use Rattle.algebra.specs.Plane.{Vec, less, _⊗_, _⟶_ as _⇢_}
-use Rattle.algebra.proofs.RingSolver.{CommRing, _:-_, :-_, _:=_, E, order}
-use Rattle.algebra.proofs.OrderedRing.{OrderedRing, base, pos-eq, nn-eq, clash, nn-pos, sign}
+use Rattle.algebra.proofs.RingSolver.{CommRing, _:-_, :-_, _:=_, E}
+use Rattle.algebra.proofs.OrderedRing.{OrderedRing, base, pos-eq, nn-eq, clash, nn-pos}
 use Rattle.algebra.proofs.PlaneSolver.{_:×_, ringV}
 use Rattle.algebra.specs.declared.Sign.{Sign}
 use Rattle.taut.specs.declared.Side.{Side}

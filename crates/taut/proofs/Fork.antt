@@ -6,7 +6,7 @@ use mathlib.Core.List.{List, [], _∷_, _++_, reverse, reverseAux}
 use mathlib.Core.Logic.{inl, inr}
 use Rattle.algebra.specs.Arithmetic.{Ops, OrderLaws, Arithmetic, Nn}
 use Rattle.algebra.specs.Plane.{Vec, _⊗_, _⟶_ as _⇢_}
-use Rattle.algebra.proofs.RingSolver.{CommRing, :0, _:=_, order, at, neg-nil, sub-nil}
+use Rattle.algebra.proofs.RingSolver.{CommRing, :0, _:=_, at, neg-nil, sub-nil}
 use Rattle.algebra.proofs.OrderedRing.{OrderedRing, base, pos-eq, nn-eq, nn-pos, nn-split, nn-add}
 use Rattle.algebra.proofs.PlaneSolver.{_:×_, ringV, same-vector}
 use Rattle.taut.specs.declared.Side.{Side}

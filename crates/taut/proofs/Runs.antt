@@ -5,7 +5,7 @@ use mathlib.Core.List.{List, [], _∷_}
 use mathlib.Core.Logic.{_⊎_, inl, inr}
 use Rattle.algebra.specs.Arithmetic.{Ops, OrderLaws, Arithmetic, Nn}
 use Rattle.algebra.specs.Plane.{Vec, _⟶_ as _⇢_}
-use Rattle.algebra.proofs.RingSolver.{CommRing, order, at}
+use Rattle.algebra.proofs.RingSolver.{CommRing, at}
 use Rattle.algebra.proofs.OrderedRing.{OrderedRing, base, pos-eq, nn-eq, nn-nil}
 use Rattle.taut.specs.declared.Side.{Side}
 use Rattle.taut.specs.declared.Side.the-variants.{Left, Right}

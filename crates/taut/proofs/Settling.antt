@@ -6,7 +6,7 @@ use mathlib.Core.Bool.{Bool, true, false, cond}
 use Rattle.algebra.specs.Arithmetic.{Ops, Arithmetic, Nn}
 use Rattle.algebra.specs.Plane.{Vec, _⊗_, _⟶_ as _⇢_}
 use Rattle.algebra.proofs.RingSolver.{neg-neg, neg-nil}
-use Rattle.algebra.proofs.OrderedRing.{OrderedRing, base, pos-eq, nn-eq, nn-pos, nn-nil, sign}
+use Rattle.algebra.proofs.OrderedRing.{OrderedRing, base, pos-eq, nn-eq, nn-pos, nn-nil}
 use Rattle.algebra.specs.declared.Sign.{Sign}
 use Rattle.algebra.specs.declared.Sign.the-variants.{Plus, Zero, Minus}
 use Rattle.taut.specs.declared.Side.{Side}
