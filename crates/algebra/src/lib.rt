@@ -5,7 +5,7 @@ pub mod laws;
 pub mod numbers;
 pub mod signs;
 
-#[derive(Clone, Copy, PartialEq, Eq, Debug)]
+#[derive(Clone, Copy, PartialEq, Eq)]
 pub enum Sign {
     Minus,
     Zero,

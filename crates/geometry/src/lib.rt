@@ -6,7 +6,7 @@ use coordinates::Offset;
 pub mod kinds;
 pub mod points;
 
-#[derive(Clone, Copy, PartialEq, Eq, Debug)]
+#[derive(Clone, Copy, PartialEq, Eq)]
 pub enum Turn {
     Left,
     Straight,
