@@ -1,0 +1,4 @@
+pub mod LastLetters
+pub mod EqualReductions
+pub mod LettersInPlaces
+pub mod ReducingInPlace
