@@ -1,0 +1,5 @@
+use Rattle.deque.proofs.ListEquations.{read-length}
+use Rattle.deque.proofs.Deque.len.Needs as need
+
+pub returns : need.returns
+returns g c = read-length _ _ _ (c .read-over .ensures)

@@ -1,0 +1,2 @@
+pub mod RingOfPlaces
+pub mod ListEquations
