@@ -2,3 +2,4 @@ pub mod LastLetters
 pub mod EqualReductions
 pub mod LettersInPlaces
 pub mod ReducingInPlace
+pub mod LawfulSorts
