@@ -4,6 +4,7 @@ ghost use mathlib.Core.List.{List, [], _∷_, _++_};
 ghost use Prim.Native.Nat.{ℕ, _+_, _-_, _<_, _≤_};
 ghost use lib.ListN.{length};
 ghost use Rattle.std.specs.Finite.{nth};
+ghost use Rattle.std.specs.Orderings.{When};
 ghost use Rattle.std.specs.Results.{Cases};
 ghost use Rattle.std.specs.Options.{Cases as BySome};
 ghost use Rattle.base.specs.Refusals.{refusal};
@@ -32,7 +33,8 @@ fn place(head: usize, k: usize, size: usize) -> usize
 
 impl<T: Copy> Deque<T> {
     pub fn new() -> Deque<T>
-        ensures { λ r. ⌜ ((slots : List T) → contents r slots ≡ []) ⌝ }
+        ensures empty { λ r. ⌜ ((slots : List T) → contents r slots ≡ []) ⌝ }
+        ensures start { λ r. ⌜ (r .head ≡ 0) × (r .len ≡ 0) ⌝ }
     {
         Deque {
             head: 0,
@@ -48,12 +50,14 @@ impl<T: Copy> Deque<T> {
         if self.head <= size && self.len <= size {
             self
         } else {
-            Deque {
-                head: 0,
-                len: 0,
-                elements: PhantomData,
-            }
+            Deque::new()
         }
+    }
+
+    fn is_full(self, size: usize) -> bool
+        ensures { λ r. ⌜ When r (self .len ≡ size) (self .len ≡ size → ⊥) ⌝ }
+    {
+        self.len == size
     }
 
     pub fn len(&self, slots: &[T]) -> usize
@@ -84,7 +88,7 @@ impl<T: Copy> Deque<T> {
     {
         let size = slots.len();
         let list = self.read_over(size);
-        if list.len == size {
+        if list.is_full(size) {
             return Err(Refusal::ListFull { size });
         }
         let i = place(list.head, list.len, size);
@@ -104,7 +108,7 @@ impl<T: Copy> Deque<T> {
     {
         let size = slots.len();
         let list = self.read_over(size);
-        if list.len == size {
+        if list.is_full(size) {
             return Err(Refusal::ListFull { size });
         }
         let i = if list.head == 0 { size - 1 } else { list.head - 1 };

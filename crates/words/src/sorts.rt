@@ -50,6 +50,6 @@ pub impl Letter for Generator as GeneratorLetter {
     }
 
     fn same(self, other: Generator) -> bool {
-        self == other
+        self.0 == other.0
     }
 }

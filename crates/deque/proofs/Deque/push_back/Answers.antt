@@ -1,25 +1,21 @@
+use borrow.Author.Needs.{needs}
 use native.Mathlib.Omega.{arith}
-use mathlib.Core.Path.{refl}
 use Prim.Native.Nat.{_<_}
 use lib.ListN.{length, length-set}
 use Rattle.deque.proofs.ListEquations.{push-fits, push-lacks, pushed-back, length-contents}
 use Rattle.deque.proofs.Deque.push_back.Needs as need
 
-pub returns-then-list-size : need.returns-then-list-size
-returns-then-list-size g c = record {
-  verdict = push-lacks _ _ _ (c .read-over-list .ensures) (c .if-list-size .taken);
-  effect = (refl, refl);
-  size = refl;
-  few = length-contents _ _;
-}
+pub returns-then-is-full : need.returns-then-is-full
+returns-then-is-full g c =
+    let full = c .if-is-full .ensures tt in
+    search (needs, push-lacks, length-contents)
 
 pub returns : need.returns
 returns g c =
-    let over = c .read-over-list .ensures in
-    let room : c .read-over-list .result .len < length (c .args .slots .now) = omega arith in
+    let room : c .read-over-list .result .len < length (c .args .slots .now) = omega (arith, c .if-is-full .ensures tt) in
     record {
-      verdict = push-fits _ _ _ over room;
-      effect = pushed-back _ _ _ over _ _ _ room (c .place-i .ensures) refl refl;
-      size = length-set _ _ _;
-      few = length-contents _ _;
+      verdict = search (needs, push-fits);
+      effect = search (needs, pushed-back);
+      size = search (needs, length-set);
+      few = search (needs, length-contents);
     }

@@ -1,5 +1,7 @@
-use mathlib.Core.Path.{_≡_, refl, sym, ap, _∙_}
+use borrow.Author.Needs.{needs}
+use mathlib.Core.Path.{_≡_, refl}
 use native.Mathlib.Omega.{arith}
+use Prim.Native.Nat.{_+_, _-_, _^_, min}
 use Rattle.std.proofs.shelf.Ways.{when-false}
 use Rattle.std.specs.declared.option.Option.the-variants.{Some}
 use Rattle.base.specs.declared.refusals.Refusal.the-variants.{OutputShort}
@@ -12,8 +14,8 @@ pub returns-then-len-word : need.returns-then-len-word
 returns-then-len-word g c =
     let m = g .L·Letter in
     record {
-      verdict = sym (add-fits-before (m .opposed) (m .equal) (g .L·Letter·met .lawful) _ _ _ (c .if-len-word .taken));
-      effect = c .step .ensures;
+      verdict = search (needs, add-fits-before (m .opposed) (m .equal) (g .L·Letter·met .lawful));
+      effect = search needs;
     }
 
 pub returns : need.returns
@@ -21,13 +23,11 @@ returns g c =
     let m = g .L·Letter in
     let lawful = g .L·Letter·met .lawful in
     let places = c .args .word .now in
-    let lacks : add-refusal (m .opposed) (m .equal) places (c .args .len) (c .args .letter) ≡ Some (OutputShort _) =
+    let len = c .args .len in
+    let lacks : add-refusal (m .opposed) (m .equal) places len (c .args .letter) ≡ Some (OutputShort (min (len + 1) (2 ^ 64 - 1))) =
         elim (c .else-len-word-2 .came) [
           else-len-word-2·by·then-len-word-2·else-cancels w ↦
-            add-lacks-letter (m .opposed) (m .equal) lawful places _ _ (w .if-len-word-2 .taken) (when-false _ _ (w .if-cancels .left) (w .cancels .ensures))
+            add-lacks-letter (m .opposed) (m .equal) lawful places _ _ (omega (arith, w .if-len-word-2 .taken)) (when-false _ _ (w .if-cancels .left) (w .cancels .ensures))
         | else-len-word-2·by·else-len-word-2 w ↦ add-lacks-word (m .opposed) (m .equal) lawful places _ _ (omega (arith, w .if-len-word-2 .left))
         ] in
-    record {
-      verdict = ap (λ n. Some (OutputShort n)) (c .saturating-add .ensures) ∙ sym lacks;
-      effect = refl;
-    }
+    record { verdict = cc lacks; effect = refl }
