@@ -61,7 +61,7 @@ module _ {X : Type 0} where
 
     module _ (after : Deque X) where
       pub pushed-back : (i : ℕ) (x : X) → list .len < length s → i ≡ round (list .head) (list .len) (length s) → after .head ≡ list .head → after .len ≡ list .len + 1
-        → contents after (set s i x) ≡ contents d s ++ x ∷ []
+          → contents after (set s i x) ≡ contents d s ++ x ∷ []
       pushed-back i x lt at head len =
           let size = length-set s i x in
           let here : At (length s) (list .head) (list .len) i = subst (At (length s) (list .head) (list .len)) (sym at) (round-at (length s) (list .head) (list .len)) in
@@ -72,7 +72,7 @@ module _ {X : Type 0} where
           ∙ ap (λ l. l ++ x ∷ []) (sym contents-read)
 
       pub pushed-front : (i : ℕ) (x : X) → list .len < length s → Next (length s) i (list .head) → after .head ≡ i → after .len ≡ list .len + 1
-        → contents after (set s i x) ≡ x ∷ contents d s
+          → contents after (set s i x) ≡ x ∷ contents d s
       pushed-front i x lt next head len =
           let size = length-set s i x in
           let inside : i < length s = grind (arith, next, over .head-within) in
@@ -82,7 +82,7 @@ module _ {X : Type 0} where
           ∙ ap (λ l. x ∷ l) (sym contents-read)
 
       pub popped-back : (i : ℕ) (x : X) → (list .len ≡ 0 → ⊥) → i ≡ round (list .head) (list .len - 1) (length s) → x ≡ getD s i x → after .head ≡ list .head → after .len ≡ list .len - 1
-        → contents d s ≡ contents after s ++ x ∷ []
+          → contents d s ≡ contents after s ++ x ∷ []
       popped-back i x some at read head len =
           let here : At (length s) (list .head) (list .len - 1) i = subst (At (length s) (list .head) (list .len - 1)) (sym at) (round-at (length s) (list .head) (list .len - 1)) in
           let within = over .head-within in
@@ -94,7 +94,7 @@ module _ {X : Type 0} where
           ∙ ap (λ l. l ++ x ∷ []) (sym (contents-fits after s (omega arith) (omega arith) ∙ ap (λ h. ring s h (after .len)) head ∙ ap (ring s (list .head)) len))
 
       pub popped-front : (i : ℕ) (x : X) → (list .len ≡ 0 → ⊥) → i ≡ round (list .head) 0 (length s) → x ≡ getD s i x → after .head ≡ i + 1 → after .len ≡ list .len - 1
-        → contents d s ≡ x ∷ contents after s
+          → contents d s ≡ x ∷ contents after s
       popped-front i x some at read head len =
           let here : At (length s) (list .head) 0 i = subst (At (length s) (list .head) 0) (sym at) (round-at (length s) (list .head) 0) in
           let within = over .head-within in

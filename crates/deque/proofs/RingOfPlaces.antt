@@ -44,13 +44,13 @@ module _ {X : Type 0} where
       same-lists _ _
       (length-ring (set s i x) head n (omega arith) ∙ sym (length-ring s head n (omega arith)))
       (λ k d l.
-        let below : k < n = omega (arith, length-ring (set s i x) head n (omega arith)) in
-        let j = round head k (length s) in
-        let here = round-at (length s) head k in
-        let other : j ≢ i = grind (arith, here, at) in
-        ring-at (set s i x) head n k j d (omega arith) below (rw length-set here)
-        ∙ getD-set-other s i j x d other
-        ∙ sym (ring-at s head n k j d within below here))
+      let below : k < n = omega (arith, length-ring (set s i x) head n (omega arith)) in
+      let j = round head k (length s) in
+      let here = round-at (length s) head k in
+      let other : j ≢ i = grind (arith, here, at) in
+      ring-at (set s i x) head n k j d (omega arith) below (rw length-set here)
+      ∙ getD-set-other s i j x d other
+      ∙ sym (ring-at s head n k j d within below here))
 
   pub ring-last : (s : List X) (head n i : ℕ) (d : X) → head ≤ length s → n < length s → At (length s) head n i → ring s head (n + 1) ≡ ring s head n ++ getD s i d ∷ []
   ring-last s head n i d within lt at =

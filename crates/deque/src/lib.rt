@@ -10,7 +10,6 @@ ghost use Rattle.std.specs.Options.{Cases as BySome};
 ghost use Rattle.base.specs.Refusals.{refusal};
 ghost use Rattle.deque.specs.Contents.{Over, contents, round, full-refusal as fullRefusal};
 use base::refusals::Refusal;
-
 use std::marker::PhantomData;
 
 // Where the elements stand in the memory. The first stands at `head`, or at the start of the memory if `head` is its end;
@@ -111,7 +110,11 @@ impl<T: Copy> Deque<T> {
         if list.is_full(size) {
             return Err(Refusal::ListFull { size });
         }
-        let i = if list.head == 0 { size - 1 } else { list.head - 1 };
+        let i = if list.head == 0 {
+            size - 1
+        } else {
+            list.head - 1
+        };
         slots[i] = element;
         self.head = i;
         self.len = list.len + 1;

@@ -2,6 +2,7 @@
 mod reader;
 mod report;
 mod small;
+
 use reader::Case;
 use reader::MalformedError;
 use reader::Reader;

@@ -126,7 +126,10 @@ impl Reader {
             return Err(self.malformed("case").into());
         }
         let Some(sort) = Sort::of(name) else {
-            return Err(self.malformed("a name that begins with s, v, w, c or g").into());
+            return Err(
+                self.malformed("a name that begins with s, v, w, c or g")
+                    .into(),
+            );
         };
         let level = match (mark, level.parse::<u32>()) {
             ("", _) => 0,

@@ -119,7 +119,12 @@ fn popped(heap: Global, answer: Option<u32>) -> Result<String, AllocError> {
 }
 
 // What the list answers to one call; `None` if it is no call.
-fn answered(heap: Global, list: &mut Deque<u32>, slots: &mut [u32], call: &str) -> Result<Option<String>, AllocError> {
+fn answered(
+    heap: Global,
+    list: &mut Deque<u32>,
+    slots: &mut [u32],
+    call: &str,
+) -> Result<Option<String>, AllocError> {
     let (name, element) = first_word(call);
     let answer = match (name, element.parse::<u32>()) {
         ("push_front", Ok(element)) => pushed(heap, list.push_front(slots, element))?,

@@ -49,12 +49,12 @@ module _ {X : Type 0} (opposite : X → X) (equal : X → X → Bool) (lawful : 
   -- one letter added, and the letters behind it
   homotopic-step : (v w : List X) (x : X) → Homotopic opposite (v ++ x ∷ w) (added opposite equal v x ++ w)
   homotopic-step v w x = elim (way opposite equal lawful v x) [
-      cancels u e a ↦
+    | cancels u e a ↦
         let here : u ++ opposite x ∷ opposite (opposite x) ∷ w ≡ v ++ x ∷ w
-            = ap (λ y. u ++ opposite x ∷ y ∷ w) (lawful .twice x) ∙ sym (append-assoc u (opposite x ∷ []) (x ∷ w)) ∙ ap (λ t. t ++ x ∷ w) (sym e) in
+        = ap (λ y. u ++ opposite x ∷ y ∷ w) (lawful .twice x) ∙ sym (append-assoc u (opposite x ∷ []) (x ∷ w)) ∙ ap (λ t. t ++ x ∷ w) (sym e) in
         homotopic-like opposite here (ap (λ t. t ++ w) (sym a)) (back _ _ (spur u w (opposite x)))
     | appends no-end a ↦ homotopic-like opposite refl (sym (append-assoc v (x ∷ []) w) ∙ ap (λ t. t ++ w) (sym a)) (same _)
-    ]
+  ]
 
   homotopic-adding : (v w : List X) → Homotopic opposite (v ++ w) (adding opposite equal v w)
   homotopic-adding v [] = homotopic-like opposite (sym (append-nil v)) refl (same _)
@@ -80,10 +80,10 @@ module _ {X : Type 0} (opposite : X → X) (equal : X → X → Bool) (lawful : 
   adding-reduced : (v w : List X) → Reduced opposite (v ++ w) → adding opposite equal v w ≡ v ++ w
   adding-reduced v [] r = sym (append-nil v)
   adding-reduced v (x ∷ w) r = elim (way opposite equal lawful v x) [
-      cancels u e a ↦ absurd (r u w (opposite x) (ap (λ t. t ++ x ∷ w) e ∙ append-assoc u (opposite x ∷ []) (x ∷ w) ∙ ap (λ y. u ++ opposite x ∷ y ∷ w) (sym (lawful .twice x))))
+    | cancels u e a ↦ absurd (r u w (opposite x) (ap (λ t. t ++ x ∷ w) e ∙ append-assoc u (opposite x ∷ []) (x ∷ w) ∙ ap (λ y. u ++ opposite x ∷ y ∷ w) (sym (lawful .twice x))))
     | appends no-end a ↦
         ap (λ t. adding opposite equal t w) a ∙ adding-reduced (v ++ x ∷ []) w (subst (Reduced opposite) (sym (append-assoc v (x ∷ []) w)) r) ∙ append-assoc v (x ∷ []) w
-    ]
+  ]
 
   pub reduction-reduced : (w : List X) → Reduced opposite w → reduction opposite equal w ≡ w
   reduction-reduced w r = adding-reduced [] w r

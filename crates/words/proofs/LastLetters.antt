@@ -45,9 +45,9 @@ module _ {X : Type 0} (opposite : X → X) (equal : X → X → Bool) (lawful : 
       (λ f. appends (not-alone y x f) (cond-false _ _ _ f))
       (cases-bool (equal y (opposite x)))
   way (y ∷ z ∷ w) x = elim (way (z ∷ w) x) [
-      cancels v e a ↦ cancels (y ∷ v) (ap (λ u. y ∷ u) e) (ap (λ u. y ∷ u) a)
+    | cancels v e a ↦ cancels (y ∷ v) (ap (λ u. y ∷ u) e) (ap (λ u. y ∷ u) a)
     | appends no-end a ↦ appends (not-longer y z w x no-end) (ap (λ u. y ∷ u) a)
-    ]
+  ]
 
   -- the part in front of a reduced word is reduced
   pub reduced-front : (v w : List X) → Reduced opposite (v ++ w) → Reduced opposite v
@@ -55,7 +55,7 @@ module _ {X : Type 0} (opposite : X → X) (equal : X → X → Bool) (lawful : 
 
   -- a spur in w and one letter more ends in that letter, or lies in w
   no-new-spur : (w : List X) (x : X) → Reduced opposite w → ((v : List X) → w ≡ v ++ opposite x ∷ [] → ⊥) → (before : List X) (y : X) (after : List X)
-    → Last after → w ++ x ∷ [] ≡ before ++ y ∷ opposite y ∷ after → ⊥
+      → Last after → w ++ x ∷ [] ≡ before ++ y ∷ opposite y ∷ after → ⊥
   no-new-spur w x r no-end before y after none e =
       let p = same-from-push w (before ++ y ∷ []) x (opposite y) (e ∙ sym (append-assoc before (y ∷ []) (opposite y ∷ []))) in
       no-end before (p .0 ∙ ap (λ z. before ++ z ∷ []) (sym (lawful .twice y) ∙ ap opposite (sym (p .1))))
@@ -64,33 +64,33 @@ module _ {X : Type 0} (opposite : X → X) (equal : X → X → Bool) (lawful : 
 
   pub reduced-added : (w : List X) (x : X) → Reduced opposite w → Reduced opposite (added opposite equal w x)
   reduced-added w x r = elim (way w x) [
-      cancels v e a ↦ subst (Reduced opposite) (sym a) (reduced-front v _ (subst (Reduced opposite) e r))
+    | cancels v e a ↦ subst (Reduced opposite) (sym a) (reduced-front v _ (subst (Reduced opposite) e r))
     | appends no-end a ↦ subst (Reduced opposite) (sym a) (λ before after y. no-new-spur w x r no-end before y after (last after))
-    ]
+  ]
 
   -- a letter added to a word that ends in its opposite
   pub added-end : (w : List X) (x : X) → added opposite equal (w ++ opposite x ∷ []) x ≡ w
   added-end w x = elim (way (w ++ opposite x ∷ []) x) [
-      cancels v e a ↦ a ∙ sym (same-from-push w v (opposite x) (opposite x) e .0)
+    | cancels v e a ↦ a ∙ sym (same-from-push w v (opposite x) (opposite x) e .0)
     | appends no-end a ↦ absurd (no-end w refl)
-    ]
+  ]
 
   -- a letter and its opposite, added one after the other
   pub undone : (w : List X) (x : X) → Reduced opposite w → added opposite equal (added opposite equal w x) (opposite x) ≡ w
   undone w x r = elim (way w x) [
-      cancels v e a ↦ ap (λ u. added opposite equal u (opposite x)) a ∙ elim (way v (opposite x)) [
-          cancels u f b ↦ absurd (r u [] x (e
-            ∙ ap (λ t. t ++ opposite x ∷ []) (f ∙ ap (λ y. u ++ y ∷ []) (lawful .twice x))
-            ∙ append-assoc u (x ∷ []) (opposite x ∷ [])))
-        | appends no-end b ↦ b ∙ sym e
-        ]
+    | cancels v e a ↦ ap (λ u. added opposite equal u (opposite x)) a ∙ elim (way v (opposite x)) [
+      | cancels u f b ↦ absurd (r u [] x (e
+          ∙ ap (λ t. t ++ opposite x ∷ []) (f ∙ ap (λ y. u ++ y ∷ []) (lawful .twice x))
+          ∙ append-assoc u (x ∷ []) (opposite x ∷ [])))
+      | appends no-end b ↦ b ∙ sym e
+    ]
     | appends no-end a ↦
         ap (λ u. added opposite equal u (opposite x)) (a ∙ ap (λ y. w ++ y ∷ []) (sym (lawful .twice x))) ∙ added-end w (opposite x)
-    ]
+  ]
 
   -- at most one letter more
   pub length-added : (w : List X) (x : X) → length (added opposite equal w x) ≤ length w + 1
   length-added w x = elim (way w x) [
-      cancels v e a ↦ omega (arith, ap length a, ap length e, length-push v (opposite x))
+    | cancels v e a ↦ omega (arith, ap length a, ap length e, length-push v (opposite x))
     | appends no-end a ↦ omega (arith, ap length a, length-push w x)
-    ]
+  ]

@@ -26,23 +26,23 @@ module _ {X : Type 0} (opposite : X → X) (equal : X → X → Bool) (lawful : 
   added-to-none e = ap (λ n. added opposite equal (take n places) x) e ∙ ap (λ n. take n places ++ x ∷ []) (sym e)
 
   pub last-cancels : (y : X) → 0 < len → len ≤ length places → y ≡ getD places (len - 1) y → equal y (opposite x) ≡ true
-    → added opposite equal (take len places) x ≡ take (len - 1) places
+      → added opposite equal (take len places) x ≡ take (len - 1) places
   last-cancels y some within read t =
       ap (λ w. added opposite equal w x) (last-place places len y some within read ∙ ap (λ z. take (len - 1) places ++ z ∷ []) (lawful .decides y (opposite x) .0 t))
       ∙ added-end opposite equal lawful (take (len - 1) places) x
 
   pub last-stays : (y : X) → 0 < len → len ≤ length places → y ≡ getD places (len - 1) y → equal y (opposite x) ≡ false
-    → added opposite equal (take len places) x ≡ take len places ++ x ∷ []
+      → added opposite equal (take len places) x ≡ take len places ++ x ∷ []
   last-stays y some within read f = elim (way opposite equal lawful (take len places) x) [
-      cancels v e a ↦
+    | cancels v e a ↦
         let p = same-from-push (take (len - 1) places) v y (opposite x) (sym (last-place places len y some within read) ∙ e) in
         absurd (both-ways (equal y (opposite x)) f (lawful .decides y (opposite x) .1 (p .1)))
     | appends no-end a ↦ a
-    ]
+  ]
 
   -- a place fewer
   pub stands-shorter : 0 < len → len ≤ length places → added opposite equal (take len places) x ≡ take (len - 1) places
-    → Stands (added opposite equal (take len places) x) (len - 1) places places
+      → Stands (added opposite equal (take len places) x) (len - 1) places places
   stands-shorter some within e = record {
     long = sym (ap length e ∙ length-take-le (len - 1) places (omega arith));
     word = sym e;
@@ -51,7 +51,7 @@ module _ {X : Type 0} (opposite : X → X) (equal : X → X → Bool) (lawful : 
 
   -- a place more
   pub stands-longer : len < length places → added opposite equal (take len places) x ≡ take len places ++ x ∷ []
-    → Stands (added opposite equal (take len places) x) (len + 1) places (set places len x)
+      → Stands (added opposite equal (take len places) x) (len + 1) places (set places len x)
   stands-longer within e = record {
     long = sym (ap length e ∙ length-push (take len places) x ∙ ap (λ n. n + 1) (length-take-le len places (omega arith)));
     word = take-more-set places len x within ∙ sym e;
@@ -70,8 +70,8 @@ module _ {X : Type 0} (opposite : X → X) (equal : X → X → Bool) (lawful : 
   add-lacks-word short = cond-false _ _ _ (and-left _ _ (lt-leb _ _ short))
 
   pub add-lacks-letter : len ≡ length places → added opposite equal (take len places) x ≡ take len places ++ x ∷ []
-    → add-refusal opposite equal places len x ≡ Some (OutputShort (min (len + 1) (2 ^ 64 - 1)))
+      → add-refusal opposite equal places len x ≡ Some (OutputShort (min (len + 1) (2 ^ 64 - 1)))
   add-lacks-letter full e =
       let long : length places < length (added opposite equal (take len places) x) =
-          omega (arith, ap length e, length-push (take len places) x, length-take-le len places (omega arith)) in
+      omega (arith, ap length e, length-push (take len places) x, length-take-le len places (omega arith)) in
       cond-false _ _ _ (and-right _ _ (lt-leb _ _ long))

@@ -3,3 +3,4 @@ pub mod EqualReductions
 pub mod LettersInPlaces
 pub mod ReducingInPlace
 pub mod LawfulSorts
+pub mod CarriedOver

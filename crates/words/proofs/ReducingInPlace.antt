@@ -36,18 +36,18 @@ module _ {X : Type 0} (opposite : X → X) (equal : X → X → Bool) where
   peak-above v (x ∷ w) = omega arith
 
   module _ (lawful : Lawful opposite equal) (start : List X) (i n m : ℕ) (x : X) (places after : List X)
-    (within : i < length places) (read : x ≡ getD places i x) (reading : Reading start i n places) (step : Stands (added opposite equal (take n places) x) m places after) where
+      (within : i < length places) (read : x ≡ getD places i x) (reading : Reading start i n places) (step : Stands (added opposite equal (take n places) x) m places after) where
     pub goes-on : Reading start (i + 1) m after
     goes-on =
         let v = take n places in
         let tail = drop (i + 1) start in
         let few : m ≤ i + 1 = omega (arith, reading .few, reading .long, step .long, length-added opposite equal lawful v x) in
         let next : drop i start ≡ x ∷ tail =
-            sym (reading .unread) ∙ drop-more places i x within ∙ ap (λ y. y ∷ drop (i + 1) places) (sym read)
-            ∙ ap (λ l. x ∷ l) (drop-later i (i + 1) places start (omega arith) (reading .unread)) in
+        sym (reading .unread) ∙ drop-more places i x within ∙ ap (λ y. y ∷ drop (i + 1) places) (sym read)
+        ∙ ap (λ l. x ∷ l) (drop-later i (i + 1) places start (omega arith) (reading .unread)) in
         let word = step .word in
         let higher : max (length v) (peak opposite equal (added opposite equal v x) tail) ≤ peak opposite equal [] start =
-            subst (λ l. peak opposite equal v l ≤ peak opposite equal [] start) next (reading .high) in
+        subst (λ l. peak opposite equal v l ≤ peak opposite equal [] start) next (reading .high) in
         let high : peak opposite equal (added opposite equal v x) tail ≤ peak opposite equal [] start = omega arith in
         let low : m ≤ peak opposite equal [] start = omega (arith, step .long, peak-above (added opposite equal v x) tail) in
         record {

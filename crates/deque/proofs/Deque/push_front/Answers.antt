@@ -17,10 +17,10 @@ pub returns : need.returns
 returns g c =
     let room : c .read-over-list .result .len < length (c .args .slots .now) = omega (arith, c .if-is-full .ensures tt) in
     let next : Next (length (c .args .slots .now)) (c .if-list-eq0 .i) (c .read-over-list .result .head) =
-        elim (c .if-list-eq0 .came) [
-          then-list-eq0 w ↦ inr (w .if-list-eq0 .taken, omega (arith, w .i-is))
-        | else-list-eq0 w ↦ inl (omega (arith, w .i-is))
-        ] in
+    elim (c .if-list-eq0 .came) [
+      | then-list-eq0 w ↦ inr (w .if-list-eq0 .taken, omega (arith, w .i-is))
+      | else-list-eq0 w ↦ inl (omega (arith, w .i-is))
+    ] in
     record {
       verdict = search (needs, push-fits);
       effect = search (needs, pushed-front);

@@ -25,9 +25,9 @@ returns g c =
     let places = c .args .word .now in
     let len = c .args .len in
     let lacks : add-refusal (m .opposed) (m .equal) places len (c .args .letter) ≡ Some (OutputShort (min (len + 1) (2 ^ 64 - 1))) =
-        elim (c .else-len-word-2 .came) [
-          else-len-word-2·by·then-len-word-2·else-cancels w ↦
-            add-lacks-letter (m .opposed) (m .equal) lawful places _ _ (omega (arith, w .if-len-word-2 .taken)) (when-false _ _ (w .if-cancels .left) (w .cancels .ensures))
-        | else-len-word-2·by·else-len-word-2 w ↦ add-lacks-word (m .opposed) (m .equal) lawful places _ _ (omega (arith, w .if-len-word-2 .left))
-        ] in
+    elim (c .else-len-word-2 .came) [
+      | else-len-word-2·by·then-len-word-2·else-cancels w ↦
+          add-lacks-letter (m .opposed) (m .equal) lawful places _ _ (omega (arith, w .if-len-word-2 .taken)) (when-false _ _ (w .if-cancels .left) (w .cancels .ensures))
+      | else-len-word-2·by·else-len-word-2 w ↦ add-lacks-word (m .opposed) (m .equal) lawful places _ _ (omega (arith, w .if-len-word-2 .left))
+    ] in
     record { verdict = cc lacks; effect = refl }

@@ -22,7 +22,7 @@ returns g c =
     let lawful = g .L·Letter·met .lawful in
     let start = c .args .word .now in
     let word : take (c .loop-i .n) (c .loop-i .word) ≡ reduction (m .opposed) (m .equal) start =
-        search (needs, ends (m .opposed) (m .equal)) in
+    search (needs, ends (m .opposed) (m .equal)) in
     record {
       word = word;
       long = sym (c .loop-i .inv .long) ∙ ap length word;
