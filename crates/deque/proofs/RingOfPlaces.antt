@@ -1,12 +1,12 @@
 -- A ring of places, read from a head: element k is what stands in its place, and a write behind the last element or in front of
 -- the first adds to the ring and keeps the rest.
-use mathlib.Core.Path.{_≡_, refl, sym, ap, _∙_}
+use mathlib.Core.Path.{_≡_, sym, ap, _∙_}
 use mathlib.Core.List.{List, [], _∷_, _++_}
 use mathlib.Core.Logic.{_⊎_, inl, inr, _≢_}
 use Prim.Native.Nat.{ℕ, zero, suc, _+_, _-_, _<_, _≤_}
 use native.Mathlib.Numerals.{add-one}
 use native.Mathlib.Omega.{arith}
-use lib.ListN.{length, getD, set, take, drop}
+use lib.ListN.{length, getD, set, drop}
 use Rattle.std.proofs.shelf.Lists.{same-lists, take-more, getD-take, getD-drop, getD-append-left, getD-append-right, length-take-le, length-append, length-drop, length-set, getD-set-same, getD-set-other, getD-default}
 use Rattle.std.proofs.shelf.Ways.{tells}
 use Rattle.deque.specs.Contents.{ring, round}

@@ -1,6 +1,6 @@
 -- Two letters, followed by their opposites in the other order, reduce to the empty word.
 use mathlib.Core.Path.{_≡_, sym, ap, _∙_}
-use mathlib.Core.List.{List, [], _∷_}
+use mathlib.Core.List.{[], _∷_}
 use mathlib.Core.Bool.{Bool}
 use Rattle.words.specs.Words.{spur, join, Lawful, reduction}
 use Rattle.words.proofs.EqualReductions.{equal-reductions}

@@ -1,6 +1,5 @@
 // The one reduction, used at both sorts of letters: a spur inside a spur goes with it.
 ghost use mathlib.Core.Path.{_≡_};
-ghost use Prim.Native.Nat.{ℕ};
 use words::letters::Letter;
 use words::reducing::reduce;
 use words::sorts::Crossing;

@@ -3,12 +3,12 @@
 use mathlib.Core.Path.{_≡_, refl, sym, ap, _∙_, subst}
 use mathlib.Core.List.{List, [], _∷_, _++_}
 use mathlib.Core.Bool.{Bool}
-use Prim.Native.Nat.{ℕ, _+_, _≤_}
+use Prim.Native.Nat.{_+_, _≤_}
 use native.Mathlib.Omega.{arith}
 use lib.ListN.{length}
 use Rattle.std.proofs.shelf.Lists.{append-assoc, append-nil, length-append}
 use Rattle.words.specs.Words.{Reduced, Homotopic, same, spur, back, join, Lawful, added, adding, reduction, Reductions}
-use Rattle.words.proofs.LastLetters.{Way, cancels, appends, way, reduced-added, undone, length-added}
+use Rattle.words.proofs.LastLetters.{cancels, appends, way, reduced-added, undone, length-added}
 
 module _ {X : Type 0} (opposite : X → X) where
   pub reduced-none : Reduced opposite []

@@ -2,14 +2,14 @@
 -- the letter is appended. So a reduced word stays reduced, and a letter and its opposite, added one after the other, leave it.
 use mathlib.Core.Path.{_≡_, refl, sym, ap, _∙_, subst}
 use mathlib.Core.List.{List, [], _∷_, _++_}
-use mathlib.Core.Bool.{Bool, true, false, cond}
-use mathlib.Core.Logic.{_⊎_, inl, inr, ⊎-elim}
-use Prim.Native.Nat.{ℕ, _+_, _≤_}
+use mathlib.Core.Bool.{Bool, false}
+use mathlib.Core.Logic.{_⊎_, ⊎-elim}
+use Prim.Native.Nat.{_+_, _≤_}
 use native.Mathlib.Omega.{arith}
 use lib.ListN.{length}
-use Rattle.std.proofs.shelf.Lists.{append-assoc, length-append, length-push, same-from-push}
+use Rattle.std.proofs.shelf.Lists.{append-assoc, length-push, same-from-push}
 use Rattle.std.proofs.shelf.Tests.{cases-bool, cond-true, cond-false, both-ways}
-use Rattle.words.specs.Words.{Reduced, Lawful, added, adding}
+use Rattle.words.specs.Words.{Reduced, Lawful, added}
 
 module _ {X : Type 0} where
   pub data Last : List X → Type 0 where

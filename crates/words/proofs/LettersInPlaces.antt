@@ -1,18 +1,18 @@
--- A letter added to the word in the first places of a list: one place fewer holds it, or the next place holds the letter.
--- What is left of a word that is read place by place gives its reduction.
-use mathlib.Core.Path.{_≡_, refl, sym, ap, _∙_}
+-- A letter added to the word in the first places of a list: the last place is given up, or the next place takes the letter, if
+-- there is one.
+use mathlib.Core.Path.{_≡_, sym, ap, _∙_}
 use mathlib.Core.List.{List, [], _∷_, _++_}
 use mathlib.Core.Bool.{Bool, true, false}
 use Prim.Native.Nat.{ℕ, _+_, _-_, _^_, _<_, _≤_, min}
 use native.Mathlib.Omega.{arith}
-use lib.ListN.{length, getD, set, take, drop}
-use Rattle.std.proofs.shelf.Lists.{take-more, take-more-set, drop-set-lt, length-take-le, length-push, same-from-push, drop-drop}
+use lib.ListN.{length, getD, set, take}
+use Rattle.std.proofs.shelf.Lists.{take-more, take-more-set, drop-set-lt, length-take-le, length-push, same-from-push}
 use Rattle.std.proofs.shelf.Tests.{both-ways, cond-true, cond-false, and-from, and-left, and-right, le-leb, lt-leb}
-use Rattle.words.specs.Words.{Lawful, added, adding, peak}
+use Rattle.words.specs.Words.{Lawful, added}
 use Rattle.std.specs.declared.option.Option.the-variants.{Some, None}
 use Rattle.base.specs.declared.refusals.Refusal.the-variants.{OutputShort}
 use Rattle.words.specs.Places.{Stands, add-refusal}
-use Rattle.words.proofs.LastLetters.{Way, cancels, appends, way, added-end, length-added}
+use Rattle.words.proofs.LastLetters.{cancels, appends, way, added-end, length-added}
 
 module _ {X : Type 0} where
   -- the last letter of the word in the first len places
@@ -22,9 +22,6 @@ module _ {X : Type 0} where
       ap (λ n. take n places) up ∙ take-more places (len - 1) y (omega arith) ∙ ap (λ z. take (len - 1) places ++ z ∷ []) (sym read)
 
 module _ {X : Type 0} (opposite : X → X) (equal : X → X → Bool) (lawful : Lawful opposite equal) (places : List X) (len : ℕ) (x : X) where
-  pub added-to-none : len ≡ 0 → added opposite equal (take len places) x ≡ take len places ++ x ∷ []
-  added-to-none e = ap (λ n. added opposite equal (take n places) x) e ∙ ap (λ n. take n places ++ x ∷ []) (sym e)
-
   pub last-cancels : (y : X) → 0 < len → len ≤ length places → y ≡ getD places (len - 1) y → equal y (opposite x) ≡ true
       → added opposite equal (take len places) x ≡ take (len - 1) places
   last-cancels y some within read t =
@@ -39,15 +36,6 @@ module _ {X : Type 0} (opposite : X → X) (equal : X → X → Bool) (lawful : 
         absurd (both-ways (equal y (opposite x)) f (lawful .decides y (opposite x) .1 (p .1)))
     | appends no-end a ↦ a
   ]
-
-  -- a place fewer
-  pub stands-shorter : 0 < len → len ≤ length places → added opposite equal (take len places) x ≡ take (len - 1) places
-      → Stands (added opposite equal (take len places) x) (len - 1) places places
-  stands-shorter some within e = record {
-    long = sym (ap length e ∙ length-take-le (len - 1) places (omega arith));
-    word = sym e;
-    rest = refl;
-  }
 
   -- a place more
   pub stands-longer : len < length places → added opposite equal (take len places) x ≡ take len places ++ x ∷ []

@@ -3,7 +3,7 @@
 -- Stands         a word stands in the first n places, and the places behind it are as they were
 -- add-refusal    why one more letter finds no place, if it finds none
 use mathlib.Core.Path.{_≡_}
-use mathlib.Core.List.{List, [], _∷_}
+use mathlib.Core.List.{List}
 use mathlib.Core.Bool.{Bool, cond, _&&_}
 use Prim.Native.Nat.{ℕ, _+_, _-_, _^_, min}
 use lib.Dec.{leb}

@@ -9,7 +9,7 @@
 use mathlib.Core.Bool.{Bool, false, cond, _&&_}
 use lib.Dec.{eqb}
 use lib.IntN.{ℤ, pos, negsuc, negℤ}
-use Prim.Native.Nat.{ℕ, suc}
+use Prim.Native.Nat.{suc}
 use Rattle.words.specs.declared.sorts.Crossing.{Crossing}
 use Rattle.words.specs.declared.sorts.Generator.{Generator}
 

@@ -1,6 +1,4 @@
 // The two sorts of letters: crossings, of which walks are made, and signed generators, of which class words are made.
-ghost use mathlib.Core.Path.{_≡_};
-ghost use mathlib.Core.Bool.{Bool};
 ghost use Rattle.words.specs.Sorts.{recrossed, same-crossing as sameCrossing, inverse, same-generator as sameGenerator};
 use crate::letters::Letter;
 use base::ids::HalfEdgeId;
