@@ -3,6 +3,8 @@ use crate::reader::Case;
 use crate::reader::MalformedError;
 use crate::reader::first_word;
 use crate::report::Outcome;
+use algebra::Sign;
+use algebra::signs::sign_of;
 use base::ids::HalfEdgeId;
 use base::refusals::Refusal;
 use deque::Deque;
@@ -27,7 +29,7 @@ pub fn run(heap: Global, case: &Case) -> Result<Outcome, AnyError> {
         "letters" => letters(heap, case, rest),
         "doors" => doors(heap, case, rest),
         "deque" => deque_calls(heap, case, rest),
-        "sign" => sign(case, rest),
+        "sign" => sign(heap, case, rest),
         _ => Err(case.malformed(0, "letters, doors, deque or sign").into()),
     }
 }
@@ -156,7 +158,15 @@ fn deque_calls(heap: Global, case: &Case, text: &str) -> Result<Outcome, AnyErro
     Ok(Outcome::Agrees)
 }
 
-// The sign of p + q√2 is not known here yet.
-fn sign(_case: &Case, _text: &str) -> Result<Outcome, AnyError> {
-    Ok(Outcome::Skipped)
+fn sign(heap: Global, case: &Case, text: &str) -> Result<Outcome, AnyError> {
+    let (p, q) = first_word(text);
+    let (Ok(p), Ok(q)) = (p.parse::<i64>(), q.parse::<i64>()) else {
+        return Err(case.malformed(0, "the two parts of a number").into());
+    };
+    let got = match sign_of(p, q) {
+        Sign::Minus => "-1",
+        Sign::Zero => "0",
+        Sign::Plus => "1",
+    };
+    compared(heap, case, String::from_str(heap, got)?)
 }

@@ -2,11 +2,10 @@
 ghost use Rattle.words.specs.Sorts.{recrossed, same-crossing as sameCrossing, inverse, same-generator as sameGenerator};
 use crate::letters::Letter;
 use base::ids::HalfEdgeId;
-use base::ids::HalfEdgeIdDebug;
 use base::ids::HalfEdgeIdPartialEq;
 
 // A portal crossed from the half-edge left to the half-edge entered.
-#[derive(Clone, Copy, PartialEq, Eq, Debug)]
+#[derive(Clone, Copy, PartialEq, Eq)]
 pub struct Crossing {
     pub left: HalfEdgeId,
     pub entered: HalfEdgeId,
@@ -30,7 +29,7 @@ pub impl Letter for Crossing as CrossingLetter {
 }
 
 // A generator of the fundamental group, by its number: positive as it stands, negative for its inverse.
-#[derive(Clone, Copy, PartialEq, Eq, Debug)]
+#[derive(Clone, Copy, PartialEq, Eq)]
 pub struct Generator(pub i16);
 
 pub impl Letter for Generator as GeneratorLetter {
