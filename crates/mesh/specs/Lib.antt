@@ -1,0 +1,4 @@
+pub mod Surface
+pub mod Sound
+pub mod Lists
+pub mod Verdict

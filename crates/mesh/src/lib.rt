@@ -1,0 +1,1 @@
+// What a mesh means, when it is sound, and the test of lists that says which.
