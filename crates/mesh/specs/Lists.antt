@@ -1,19 +1,15 @@
 -- Lists       what a mesh is read from: the number of triangles, a point for each vertex, and for each half-edge its corner and its code across
--- leads       what a code across says: 65,535 is boundary, any other code the half-edge of that number
 -- listed      the surface of the lists; past the end of a list it answers vertex 0, the origin and boundary
 -- Limits      1 to 4,096 triangles, 3 to 8,192 vertices, three corners and three codes across for each triangle
--- InRange     every coordinate lies from −10,000 to 10,000
+-- InRange     the coordinates of a vertex lie from −10,000 to 10,000
 use mathlib.Core.Path.{_≡_}
 use mathlib.Core.List.{List}
-use mathlib.Core.Bool.{cond}
-use Prim.Native.Nat.{ℕ, _*_, _<_, _≤_}
+use Prim.Native.Nat.{ℕ, _*_, _≤_}
 use lib.ListN.{length, getD}
-use lib.Dec.{eqb}
-use Rattle.std.specs.declared.option.Option.{Option}
-use Rattle.std.specs.declared.option.Option.the-variants.{Some, None}
+use Rattle.std.specs.declared.option.Option.the-variants.{None}
 use Rattle.base.specs.declared.ids.VertexId.{VertexId}
 use Rattle.base.specs.declared.ids.HalfEdgeId.{HalfEdgeId}
-use Rattle.base.specs.Ids.{vertex, boundary}
+use Rattle.base.specs.Ids.{vertex, boundary, leads}
 use Rattle.geometry.specs.Plane.{Point, origin}
 use Rattle.geometry.specs.Ranges.{point-refusal}
 use Rattle.mesh.specs.Surface.{Surface}
@@ -26,9 +22,6 @@ pub record Lists : Type 0 where
 
 abbrev pub lists : ℕ → List Point → List VertexId → List HalfEdgeId → Lists
 lists n ps cs ds = record { triangles = n; points = ps; corners = cs; across = ds }
-
-abbrev pub leads : HalfEdgeId → Option HalfEdgeId
-leads d = cond (eqb (d .0) 65535) None (Some d)
 
 abbrev pub listed : Lists → Surface
 listed l = record {
@@ -47,5 +40,5 @@ pub record Limits (l : Lists) : Type 0 where
   pub all-corners : length (l .corners) ≡ 3 * l .triangles
   pub all-sides : length (l .across) ≡ 3 * l .triangles
 
-abbrev pub InRange : Lists → Type 0
-InRange l = (v : VertexId) → v .0 < length (l .points) → point-refusal (listed l .point v) ≡ None
+abbrev pub InRange : Lists → VertexId → Type 0
+InRange l v = point-refusal (listed l .point v) ≡ None
