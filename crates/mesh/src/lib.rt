@@ -1,1 +1,3 @@
 // What a mesh means, when it is sound, and the test of lists that says which.
+mod fans;
+mod scans;
