@@ -1,1 +1,4 @@
 pub mod ReadRows
+pub mod FanSteps
+pub mod Marks
+pub mod FanWalk

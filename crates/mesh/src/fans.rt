@@ -4,15 +4,15 @@ ghost use mathlib.Core.Logic.{_⊎_};
 ghost use mathlib.Core.Bool.{true, false};
 ghost use mathlib.Core.List.{[], map};
 ghost use Prim.Native.Nat.{_*_, _<_, _≤_};
-ghost use lib.ListN.{length, getD};
+ghost use lib.ListN.{length, getD, set};
 ghost use Rattle.std.specs.Orderings.{Decides};
 ghost use Rattle.std.specs.declared.option.Option.the-variants.{None};
 ghost use Rattle.base.specs.Ids.{half-edge as halfEdge};
-ghost use Rattle.base.specs.declared.ids.HalfEdgeId.{HalfEdgeId as Side};
 ghost use Rattle.mesh.specs.Surface.{Covers};
 ghost use Rattle.mesh.specs.Lists.{lists, listed};
-ghost use Rattle.mesh.specs.Stages.{Readable};
+ghost use Rattle.mesh.specs.Stages.{Readable, Walkable, Starts, Fresh, Fanned, Walked};
 use crate::scans::spot_of;
+use crate::scans::twin_of;
 use base::ids::HalfEdgeId;
 use base::ids::VertexId;
 use geometry::Turn;
@@ -33,4 +33,45 @@ fn covers<P: PointKind>(triangles: usize, rows: &[P::Row], corners: &[VertexId],
         return false;
     }
     P::turn(o, p, r) != Turn::Right
+}
+
+// The smaller of `least` and h where the sector of h holds the first ray, else `least`.
+fn lowered<P: PointKind>(triangles: usize, rows: &[P::Row], corners: &[VertexId], first: HalfEdgeId, h: HalfEdgeId, least: usize) -> usize
+    requires readable { ⌜ Readable (lists triangles (map written (now rows)) (now corners) []) ⌝ }
+    requires there { ⌜ (first .0 < 3 * triangles) × (h .0 < 3 * triangles) ⌝ }
+    ensures which { λ r. ⌜ (r ≡ least) ⊎ ((r ≡ h .0) × Covers (listed (lists triangles (map written (now (rows .entry))) (now (corners .entry)) [])) first h) ⌝ }
+    ensures less { λ r. ⌜ r ≤ least ⌝ }
+    ensures here { λ r. ⌜ (Covers (listed (lists triangles (map written (now (rows .entry))) (now (corners .entry)) [])) first h → r ≤ h .0) ⌝ }
+{
+    if !covers::<P>(triangles, rows, corners, first, h) {
+        return least;
+    }
+    if h.place() < least { h.place() } else { least }
+}
+
+fn mark(opened: &mut [bool], h: HalfEdgeId)
+    requires { ⌜ h .0 < length (now opened) ⌝ }
+    ensures { λ _. ⌜ now (opened .exit) ≡ set (now (opened .entry)) (h .0) true ⌝ }
+{
+    opened[h.place()] = true;
+}
+
+// Marks the corners of the fan that begins at `first`, and answers the smallest of them that comes round, or 3 * triangles.
+fn walk_fan<P: PointKind>(triangles: usize, rows: &[P::Row], corners: &[VertexId], across: &[HalfEdgeId], first: HalfEdgeId, opened: &mut [bool]) -> usize
+    requires readable { ⌜ Readable (lists triangles (map written (now rows)) (now corners) []) ⌝ }
+    requires walkable { ⌜ Walkable (lists triangles (map written (now rows)) (now corners) (now across)) ⌝ }
+    requires room { ⌜ 3 * triangles ≤ length (now opened) ⌝ }
+    requires starts { ⌜ Starts (listed (lists triangles (map written (now rows)) (now corners) (now across))) first ⌝ }
+    requires fresh { ⌜ Fresh (listed (lists triangles (map written (now rows)) (now corners) (now across))) (now opened) first ⌝ }
+    ensures { λ r. ⌜ Fanned (listed (lists triangles (map written (now (rows .entry))) (now (corners .entry)) (now (across .entry)))) first (3 * triangles) (now (opened .entry)) (now (opened .exit)) r ⌝ }
+{
+    let mut least = 3 * triangles;
+    let mut h = first;
+    mark(opened, h);
+    while let Some(d) = twin_of(across, h.previous()) {
+        h = d;
+        mark(opened, h);
+        least = lowered::<P>(triangles, rows, corners, first, h, least);
+    }
+    least
 }
