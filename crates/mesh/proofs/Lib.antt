@@ -2,3 +2,4 @@ pub mod ReadRows
 pub mod FanSteps
 pub mod Marks
 pub mod FanWalk
+pub mod AllFans

@@ -7,6 +7,7 @@
 -- Marked      a corner is marked
 -- Fresh       no corner of the fan to be walked is marked: its first is not, and whatever is marked has the corner before it marked
 -- Fanned      after one walk: what was marked before, and this fan, and nothing else; and its smallest corner that comes round, or n
+-- WalkedTo    after the walks from first corners below i: exactly their fans are marked, and r is the smallest corner that comes round, or n
 -- Walked      after all walks: exactly the corners of open fans are marked
 use mathlib.Core.Path.{_≡_}
 use mathlib.Core.List.{List}
@@ -58,6 +59,12 @@ pub record Fanned (f : Surface) (s : HalfEdgeId) (n : ℕ) (before after : List 
   pub only : (x : HalfEdgeId) → Marked after x → Marked before x ⊎ InFan f s x
   pub round : r < n → Later f s (half-edge r) × Covers f s (half-edge r)
   pub least : (x : HalfEdgeId) → Later f s x → Covers f s x → r ≤ x .0
+
+pub record WalkedTo (f : Surface) (i n : ℕ) (m : List Bool) (r : ℕ) : Type 0 where
+  pub all : (s x : HalfEdgeId) → s .0 < i → Starts f s → InFan f s x → Marked m x
+  pub only : (x : HalfEdgeId) → Marked m x → (s : HalfEdgeId) × (s .0 < i) × Starts f s × InFan f s x
+  pub round : r < n → (s : HalfEdgeId) × Starts f s × Later f s (half-edge r) × Covers f s (half-edge r)
+  pub least : (s x : HalfEdgeId) → s .0 < i → Starts f s → Later f s x → Covers f s x → r ≤ x .0
 
 pub record Walked (f : Surface) (m : List Bool) : Type 0 where
   pub opened : (x : HalfEdgeId) → Has f x → Opens f x → Marked m x

@@ -3,14 +3,17 @@ ghost use mathlib.Core.Path.{_≡_};
 ghost use mathlib.Core.Logic.{_⊎_};
 ghost use mathlib.Core.Bool.{true, false};
 ghost use mathlib.Core.List.{[], map};
-ghost use Prim.Native.Nat.{_*_, _<_, _≤_};
+ghost use Prim.Native.Nat.{_+_, _*_, _<_, _≤_};
 ghost use lib.ListN.{length, getD, set};
 ghost use Rattle.std.specs.Orderings.{Decides};
 ghost use Rattle.std.specs.declared.option.Option.the-variants.{None};
 ghost use Rattle.base.specs.Ids.{half-edge as halfEdge};
+ghost use Rattle.base.specs.declared.ids.HalfEdgeId.{HalfEdgeId as Corner};
 ghost use Rattle.mesh.specs.Surface.{Covers};
+ghost use Rattle.mesh.specs.Sound.{FallsShort};
 ghost use Rattle.mesh.specs.Lists.{lists, listed};
-ghost use Rattle.mesh.specs.Stages.{Readable, Walkable, Starts, Fresh, Fanned, Walked};
+ghost use Rattle.mesh.specs.Stages.{Readable, Walkable, Starts, Fresh, Fanned, Marked, WalkedTo, Walked};
+ghost use Rattle.mesh.specs.Verdict.{FirstBad};
 use crate::scans::spot_of;
 use crate::scans::twin_of;
 use base::ids::HalfEdgeId;
@@ -74,4 +77,49 @@ fn walk_fan<P: PointKind>(triangles: usize, rows: &[P::Row], corners: &[VertexId
         least = lowered::<P>(triangles, rows, corners, first, h, least);
     }
     least
+}
+
+// Walks the fan of h if h is its first corner; `least` is the smallest corner so far that comes round, or 3 * triangles.
+fn walk_from<P: PointKind>(triangles: usize, rows: &[P::Row], corners: &[VertexId], across: &[HalfEdgeId], h: HalfEdgeId, least: usize, opened: &mut [bool]) -> usize
+    requires readable { ⌜ Readable (lists triangles (map written (now rows)) (now corners) []) ⌝ }
+    requires walkable { ⌜ Walkable (lists triangles (map written (now rows)) (now corners) (now across)) ⌝ }
+    requires room { ⌜ 3 * triangles ≤ length (now opened) ⌝ }
+    requires there { ⌜ h .0 < 3 * triangles ⌝ }
+    requires walked { ⌜ WalkedTo (listed (lists triangles (map written (now rows)) (now corners) (now across))) (h .0) (3 * triangles) (now opened) least ⌝ }
+    ensures { λ r. ⌜ WalkedTo (listed (lists triangles (map written (now (rows .entry))) (now (corners .entry)) (now (across .entry)))) (h .0 + 1) (3 * triangles) (now (opened .exit)) r ⌝ }
+{
+    if let Some(_) = twin_of(across, h) {
+        return least;
+    }
+    let found = walk_fan::<P>(triangles, rows, corners, across, h, opened);
+    if found < least { found } else { least }
+}
+
+// Marks the corners of all open fans, and answers the smallest corner that comes round.
+pub fn walk_fans<P: PointKind>(triangles: usize, rows: &[P::Row], corners: &[VertexId], across: &[HalfEdgeId], opened: &mut [bool]) -> Option<usize>
+    requires readable { ⌜ Readable (lists triangles (map written (now rows)) (now corners) []) ⌝ }
+    requires walkable { ⌜ Walkable (lists triangles (map written (now rows)) (now corners) (now across)) ⌝ }
+    requires room { ⌜ 3 * triangles ≤ length (now opened) ⌝ }
+    requires blank { ⌜ ((x : Corner) → Marked (now opened) x → ⊥) ⌝ }
+    ensures walked { λ _. ⌜ Walked (listed (lists triangles (map written (now (rows .entry))) (now (corners .entry)) (now (across .entry)))) (now (opened .exit)) ⌝ }
+    ensures short { λ r. ⌜ FirstBad (λ k. FallsShort (listed (lists triangles (map written (now (rows .entry))) (now (corners .entry)) (now (across .entry)))) (halfEdge k)) (3 * triangles) r ⌝ }
+{
+    let mut least = 3 * triangles;
+    for i in 0..3 * triangles {
+        least = walk_from::<P>(triangles, rows, corners, across, HalfEdgeId(i as u16), least, opened);
+    }
+    if least < 3 * triangles { Some(least) } else { None }
+}
+
+// The first corner that is not marked.
+pub fn first_closed(opened: &[bool], sides: usize) -> Option<usize>
+    requires { ⌜ sides ≤ length (now opened) ⌝ }
+    ensures { λ r. ⌜ FirstBad (λ k. Marked (now (opened .entry)) (halfEdge k)) sides r ⌝ }
+{
+    for i in 0..sides {
+        if !opened[i] {
+            return Some(i);
+        }
+    }
+    None
 }
