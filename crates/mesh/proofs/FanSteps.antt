@@ -40,7 +40,7 @@ later-none (more l e) z = later-none l z
 pub later-split : {f : Surface} {s x d : HalfEdgeId} → on f s ≡ Some d → Later f s x → (x ≡ d) ⊎ Later f d x
 later-split p (one e) = inl (some-same e p)
 later-split {f = f} {x = x} p (more l e) =
-  elim (later-split p l) [ inl same ↦ inr (one (subst (λ y. on f y ≡ Some x) same e)) | inr after ↦ inr (more after e) ]
+    elim (later-split p l) [ inl same ↦ inr (one (subst (λ y. on f y ≡ Some x) same e)) | inr after ↦ inr (more after e) ]
 
 module _ (f : Surface) (pairs : AtEach f Paired) where
   -- the side that leaves the corner entered leads back to the side that was crossed
@@ -58,7 +58,7 @@ module _ (f : Surface) (pairs : AtEach f Paired) where
   pub later-back : {s x d : HalfEdgeId} → Has f s → Later f s x → f .twin x ≡ Some d → InFan f s (next d)
   later-back {s = s} w (one e) t = inl (ap next (some-same t (back _ _ w e)) ∙ next-previous s)
   later-back {s = s} w (more {g = g} l e) t =
-    inr (subst (Later f s) (sym (ap next (some-same t (back _ _ (later-within w l) e)) ∙ next-previous g)) l)
+      inr (subst (Later f s) (sym (ap next (some-same t (back _ _ (later-within w l) e)) ∙ next-previous g)) l)
 
   pub later-inside : {s x : HalfEdgeId} → Has f s → Later f s x → f .twin x ≡ None → ⊥
   later-inside w (one e) t = some-none (back _ _ w e) t
@@ -71,7 +71,7 @@ module _ (f : Surface) (pairs : AtEach f Paired) where
   later-opens : {s x : HalfEdgeId} → Starts f s → Later f s x → Opens f x
   later-opens {s = s} b (one e) = across (back _ _ (b .has) e) (subst (Opens f) (sym (next-previous s)) (edge (b .rim)))
   later-opens b (more {g = g} l e) =
-    across (back _ _ (later-within (b .has) l) e) (subst (Opens f) (sym (next-previous g)) (later-opens b l))
+      across (back _ _ (later-within (b .has) l) e) (subst (Opens f) (sym (next-previous g)) (later-opens b l))
 
   pub fan-opens : {s x : HalfEdgeId} → Starts f s → InFan f s x → Opens f x
   fan-opens b (inl same) = subst (Opens f) (sym same) (edge (b .rim))
@@ -85,7 +85,7 @@ module _ (f : Surface) (pairs : AtEach f Paired) where
   pub opens-fan : {x : HalfEdgeId} → Has f x → Opens f x → (s : HalfEdgeId) × Starts f s × InFan f s x
   opens-fan {x = x} w (edge e) = (x, record { has = w; rim = e }, inl refl)
   opens-fan {x = x} w (across {d = d} e o) =
-    let t = pairs x w d e in
-    let ih = opens-fan (next-within f d (t .within)) o in
-    let onward : on f (next d) ≡ Some x = ap (f .twin) (previous-next d) ∙ t .back in
-    (ih .0, ih .1, inr (fan-on (ih .2) onward))
+      let t = pairs x w d e in
+      let ih = opens-fan (next-within f d (t .within)) o in
+      let onward : on f (next d) ≡ Some x = ap (f .twin) (previous-next d) ∙ t .back in
+      (ih .0, ih .1, inr (fan-on (ih .2) onward))

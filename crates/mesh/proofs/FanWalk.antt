@@ -49,15 +49,15 @@ module _ (f : Surface) (pairs : AtEach f Paired) (s : HalfEdgeId) (n : ℕ) (m�
     done = λ x i. elim i [ inl same ↦ inl (subst (Marked (set m₀ (s .0) true)) (sym same) (mark-this m₀ s room)) | inr l ↦ inr l ];
     only = λ x k. inl k;
     backs = λ x d k t.
-      elim (mark-which m₀ s room x k) [
-        inl same ↦ absurd (some-none (subst (λ y. f .twin y ≡ Some d) same t) (b .rim))
-      | inr old ↦ mark-old m₀ s room (next d) (u .backs x d old t)
-      ];
+        elim (mark-which m₀ s room x k) [
+          | inl same ↦ absurd (some-none (subst (λ y. f .twin y ≡ Some d) same t) (b .rim))
+          | inr old ↦ mark-old m₀ s room (next d) (u .backs x d old t)
+        ];
     fresh = λ d o k.
-      elim (mark-which m₀ s room d k) [
-        inl same ↦ some-none (subst (λ y. f .twin y ≡ Some (previous s)) same (back f pairs s d (b .has) o)) (b .rim)
-      | inr old ↦ u .unmarked (entered m₀ s d (u .backs) (b .has) o old)
-      ];
+        elim (mark-which m₀ s room d k) [
+          | inl same ↦ some-none (subst (λ y. f .twin y ≡ Some (previous s)) same (back f pairs s d (b .has) o)) (b .rim)
+          | inr old ↦ u .unmarked (entered m₀ s d (u .backs) (b .has) o old)
+        ];
     round = λ h. absurd (omega arith);
     least = λ x l c. inr l;
   }
@@ -67,64 +67,64 @@ module _ (f : Surface) (pairs : AtEach f Paired) (s : HalfEdgeId) (n : ℕ) (m�
     kept = λ x k. a .kept x (mark-old m₀ s room x k);
     all = a .all;
     only = λ x k.
-      elim (a .only x k) [
-        inl old ↦ elim (mark-which m₀ s room x old) [ inl same ↦ inr (inl same) | inr older ↦ inl older ]
-      | inr in-fan ↦ inr in-fan
-      ];
+        elim (a .only x k) [
+          | inl old ↦ elim (mark-which m₀ s room x old) [ inl same ↦ inr (inl same) | inr older ↦ inl older ]
+          | inr in-fan ↦ inr in-fan
+        ];
     round = a .round;
     least = a .least;
   }
 
   module _ (m : List Bool) (h : HalfEdgeId) (r : ℕ) (w : Walking f s n m₀ m h r) where
     pub step : (d : HalfEdgeId) (q : ℕ) → on f h ≡ Some d → d .0 < length m
-      → (q ≡ r) ⊎ ((q ≡ d .0) × Covers f s d) → q ≤ r → (Covers f s d → q ≤ d .0)
-      → Walking f s n m₀ (set m (d .0) true) d q
+        → (q ≡ r) ⊎ ((q ≡ d .0) × Covers f s d) → q ≤ r → (Covers f s d → q ≤ d .0)
+        → Walking f s n m₀ (set m (d .0) true) d q
     step d q o room which less here =
-      let next-one : Later f s d = fan-on f pairs (w .reached) o in
-      record {
-        has = on-within f pairs h d (w .has) o;
-        reached = inr next-one;
-        marked = mark-this m d room;
-        kept = λ x k. mark-old m d room x (w .kept x k);
-        done = λ x i.
-          elim (w .done x i) [
-            inl k ↦ inl (mark-old m d room x k)
-          | inr l ↦ elim (later-split o l) [ inl same ↦ inl (subst (Marked (set m (d .0) true)) (sym same) (mark-this m d room)) | inr after ↦ inr after ]
-          ];
-        only = λ x k.
-          elim (mark-which m d room x k) [
-            inl same ↦ inr (inr (subst (Later f s) (sym same) next-one))
-          | inr old ↦ w .only x old
-          ];
-        backs = λ x g k t.
-          elim (mark-which m d room x k) [
-            inl same ↦ mark-old m d room (next g)
-              (subst (Marked m) (sym (ap next (some-same (subst (λ y. f .twin y ≡ Some g) same t) (back f pairs h d (w .has) o)) ∙ next-previous h)) (w .marked))
-          | inr old ↦ mark-old m d room (next g) (w .backs x g old t)
-          ];
-        fresh = λ e p k.
-          elim (mark-which m d room e k) [
-            inl same ↦ w .fresh d o
-              (subst (Marked m)
-                (previous-same h d
-                  (some-same (back f pairs h d (w .has) o) (subst (λ y. f .twin y ≡ Some (previous d)) same (back f pairs d e (on-within f pairs h d (w .has) o) p))))
-                (w .marked))
-          | inr old ↦ w .fresh d o (entered m d e (w .backs) (on-within f pairs h d (w .has) o) p old)
-          ];
-        round = λ small.
-          elim which [
-            inl same ↦ subst (λ i. Later f s (half-edge i) × Covers f s (half-edge i)) (sym same) (w .round (omega arith))
-          | inr new ↦ subst (λ i. Later f s (half-edge i) × Covers f s (half-edge i)) (sym (new .0)) (next-one, new .1)
-          ];
-        least = λ x l c.
-          elim (w .least x l c) [
-            inl before ↦ inl (omega arith)
-          | inr after ↦ elim (later-split o after) [
-              inl same ↦ inl (subst (λ y. q ≤ y .0) (sym same) (here (subst (Covers f s) same c)))
-            | inr on-after ↦ inr on-after
-            ]
-          ];
-      }
+        let next-one : Later f s d = fan-on f pairs (w .reached) o in
+        record {
+          has = on-within f pairs h d (w .has) o;
+          reached = inr next-one;
+          marked = mark-this m d room;
+          kept = λ x k. mark-old m d room x (w .kept x k);
+          done = λ x i.
+              elim (w .done x i) [
+                | inl k ↦ inl (mark-old m d room x k)
+                | inr l ↦ elim (later-split o l) [ inl same ↦ inl (subst (Marked (set m (d .0) true)) (sym same) (mark-this m d room)) | inr after ↦ inr after ]
+              ];
+          only = λ x k.
+              elim (mark-which m d room x k) [
+                | inl same ↦ inr (inr (subst (Later f s) (sym same) next-one))
+                | inr old ↦ w .only x old
+              ];
+          backs = λ x g k t.
+              elim (mark-which m d room x k) [
+                | inl same ↦ mark-old m d room (next g)
+                    (subst (Marked m) (sym (ap next (some-same (subst (λ y. f .twin y ≡ Some g) same t) (back f pairs h d (w .has) o)) ∙ next-previous h)) (w .marked))
+                | inr old ↦ mark-old m d room (next g) (w .backs x g old t)
+              ];
+          fresh = λ e p k.
+              elim (mark-which m d room e k) [
+                | inl same ↦ w .fresh d o
+                    (subst (Marked m)
+                    (previous-same h d
+                    (some-same (back f pairs h d (w .has) o) (subst (λ y. f .twin y ≡ Some (previous d)) same (back f pairs d e (on-within f pairs h d (w .has) o) p))))
+                    (w .marked))
+                | inr old ↦ w .fresh d o (entered m d e (w .backs) (on-within f pairs h d (w .has) o) p old)
+              ];
+          round = λ small.
+              elim which [
+                | inl same ↦ subst (λ i. Later f s (half-edge i) × Covers f s (half-edge i)) (sym same) (w .round (omega arith))
+                | inr new ↦ subst (λ i. Later f s (half-edge i) × Covers f s (half-edge i)) (sym (new .0)) (next-one, new .1)
+              ];
+          least = λ x l c.
+              elim (w .least x l c) [
+                | inl before ↦ inl (omega arith)
+                | inr after ↦ elim (later-split o after) [
+                  | inl same ↦ inl (subst (λ y. q ≤ y .0) (sym same) (here (subst (Covers f s) same c)))
+                  | inr on-after ↦ inr on-after
+                ]
+              ];
+        }
 
     pub ended : on f h ≡ None → Fanned f s n m₀ m r
     ended z = record {

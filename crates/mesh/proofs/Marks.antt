@@ -4,7 +4,7 @@ use mathlib.Core.List.{List, [], _∷_}
 use mathlib.Core.Logic.{_⊎_, inl, inr}
 use mathlib.Core.Bool.{Bool, true, false}
 use Prim.Native.Nat.{ℕ, zero, suc, _+_, _<_}
-use lib.ListN.{length, getD, set}
+use lib.ListN.{length, getD, set, replicate}
 use lib.Seq.{getD-set-same, getD-set-other}
 use native.Mathlib.Omega.{arith}
 use Rattle.std.proofs.shelf.Ways.{eqb-tells}
@@ -16,6 +16,14 @@ abbrev pub unmarked : List Bool → ℕ
 unmarked [] = 0
 unmarked (true ∷ m) = unmarked m
 unmarked (false ∷ m) = 1 + unmarked m
+
+pub none-marked : (n : ℕ) (x : HalfEdgeId) → Marked (replicate n false) x → ⊥
+none-marked n x k = blank n (x .0) k
+  where
+    blank : (n i : ℕ) → getD (replicate n false) i false ≡ true → ⊥
+    blank zero i k = let z : _≡_ {A = ℕ} 0 1 = cc in omega arith
+    blank (suc n) zero k = let z : _≡_ {A = ℕ} 0 1 = cc in omega arith
+    blank (suc n) (suc i) k = blank n i k
 
 pub fewer : (m : List Bool) (i : ℕ) → i < length m → (getD m i false ≡ true → ⊥) → unmarked (set m i true) < unmarked m
 fewer [] i h u = absurd (omega arith)
@@ -30,14 +38,14 @@ module _ (m : List Bool) (d : HalfEdgeId) (room : d .0 < length m) where
 
   pub mark-old : (x : HalfEdgeId) → Marked m x → Marked (set m (d .0) true) x
   mark-old x k =
-    elim (eqb-tells (x .0) (d .0)) [
-      inl same ↦ subst (λ i. getD (set m (d .0) true) i false ≡ true) (sym (same .1)) mark-this
-    | inr other ↦ getD-set-other m (d .0) (x .0) true false (other .1) ∙ k
-    ]
+      elim (eqb-tells (x .0) (d .0)) [
+        | inl same ↦ subst (λ i. getD (set m (d .0) true) i false ≡ true) (sym (same .1)) mark-this
+        | inr other ↦ getD-set-other m (d .0) (x .0) true false (other .1) ∙ k
+      ]
 
   pub mark-which : (x : HalfEdgeId) → Marked (set m (d .0) true) x → (x ≡ d) ⊎ Marked m x
   mark-which x k =
-    elim (eqb-tells (x .0) (d .0)) [
-      inl same ↦ inl (ap half-edge (same .1))
-    | inr other ↦ inr (sym (getD-set-other m (d .0) (x .0) true false (other .1)) ∙ k)
-    ]
+      elim (eqb-tells (x .0) (d .0)) [
+        | inl same ↦ inl (ap half-edge (same .1))
+        | inr other ↦ inr (sym (getD-set-other m (d .0) (x .0) true false (other .1)) ∙ k)
+      ]

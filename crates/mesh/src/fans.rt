@@ -23,7 +23,13 @@ use geometry::TurnPartialEq;
 use geometry::kinds::PointKind;
 
 // Whether the first ray of a fan lies in the sector of a later triangle.
-fn covers<P: PointKind>(triangles: usize, rows: &[P::Row], corners: &[VertexId], first: HalfEdgeId, h: HalfEdgeId) -> bool
+fn covers<P: PointKind>(
+    triangles: usize,
+    rows: &[P::Row],
+    corners: &[VertexId],
+    first: HalfEdgeId,
+    h: HalfEdgeId,
+) -> bool
     requires readable { ⌜ Readable (lists triangles (map written (now rows)) (now corners) []) ⌝ }
     requires there { ⌜ (first .0 < 3 * triangles) × (h .0 < 3 * triangles) ⌝ }
     ensures { λ r. ⌜ Decides r (Covers (listed (lists triangles (map written (now (rows .entry))) (now (corners .entry)) [])) first h) ⌝ }
@@ -39,7 +45,14 @@ fn covers<P: PointKind>(triangles: usize, rows: &[P::Row], corners: &[VertexId],
 }
 
 // The smaller of `least` and h where the sector of h holds the first ray, else `least`.
-fn lowered<P: PointKind>(triangles: usize, rows: &[P::Row], corners: &[VertexId], first: HalfEdgeId, h: HalfEdgeId, least: usize) -> usize
+fn lowered<P: PointKind>(
+    triangles: usize,
+    rows: &[P::Row],
+    corners: &[VertexId],
+    first: HalfEdgeId,
+    h: HalfEdgeId,
+    least: usize,
+) -> usize
     requires readable { ⌜ Readable (lists triangles (map written (now rows)) (now corners) []) ⌝ }
     requires there { ⌜ (first .0 < 3 * triangles) × (h .0 < 3 * triangles) ⌝ }
     ensures which { λ r. ⌜ (r ≡ least) ⊎ ((r ≡ h .0) × Covers (listed (lists triangles (map written (now (rows .entry))) (now (corners .entry)) [])) first h) ⌝ }
@@ -60,7 +73,14 @@ fn mark(opened: &mut [bool], h: HalfEdgeId)
 }
 
 // Marks the corners of the fan that begins at `first`, and answers the smallest of them that comes round, or 3 * triangles.
-fn walk_fan<P: PointKind>(triangles: usize, rows: &[P::Row], corners: &[VertexId], across: &[HalfEdgeId], first: HalfEdgeId, opened: &mut [bool]) -> usize
+fn walk_fan<P: PointKind>(
+    triangles: usize,
+    rows: &[P::Row],
+    corners: &[VertexId],
+    across: &[HalfEdgeId],
+    first: HalfEdgeId,
+    opened: &mut [bool],
+) -> usize
     requires readable { ⌜ Readable (lists triangles (map written (now rows)) (now corners) []) ⌝ }
     requires walkable { ⌜ Walkable (lists triangles (map written (now rows)) (now corners) (now across)) ⌝ }
     requires room { ⌜ 3 * triangles ≤ length (now opened) ⌝ }
@@ -80,7 +100,15 @@ fn walk_fan<P: PointKind>(triangles: usize, rows: &[P::Row], corners: &[VertexId
 }
 
 // Walks the fan of h if h is its first corner; `least` is the smallest corner so far that comes round, or 3 * triangles.
-fn walk_from<P: PointKind>(triangles: usize, rows: &[P::Row], corners: &[VertexId], across: &[HalfEdgeId], h: HalfEdgeId, least: usize, opened: &mut [bool]) -> usize
+fn walk_from<P: PointKind>(
+    triangles: usize,
+    rows: &[P::Row],
+    corners: &[VertexId],
+    across: &[HalfEdgeId],
+    h: HalfEdgeId,
+    least: usize,
+    opened: &mut [bool],
+) -> usize
     requires readable { ⌜ Readable (lists triangles (map written (now rows)) (now corners) []) ⌝ }
     requires walkable { ⌜ Walkable (lists triangles (map written (now rows)) (now corners) (now across)) ⌝ }
     requires room { ⌜ 3 * triangles ≤ length (now opened) ⌝ }
@@ -96,7 +124,13 @@ fn walk_from<P: PointKind>(triangles: usize, rows: &[P::Row], corners: &[VertexI
 }
 
 // Marks the corners of all open fans, and answers the smallest corner that comes round.
-pub fn walk_fans<P: PointKind>(triangles: usize, rows: &[P::Row], corners: &[VertexId], across: &[HalfEdgeId], opened: &mut [bool]) -> Option<usize>
+pub fn walk_fans<P: PointKind>(
+    triangles: usize,
+    rows: &[P::Row],
+    corners: &[VertexId],
+    across: &[HalfEdgeId],
+    opened: &mut [bool],
+) -> Option<usize>
     requires readable { ⌜ Readable (lists triangles (map written (now rows)) (now corners) []) ⌝ }
     requires walkable { ⌜ Walkable (lists triangles (map written (now rows)) (now corners) (now across)) ⌝ }
     requires room { ⌜ 3 * triangles ≤ length (now opened) ⌝ }
@@ -106,9 +140,21 @@ pub fn walk_fans<P: PointKind>(triangles: usize, rows: &[P::Row], corners: &[Ver
 {
     let mut least = 3 * triangles;
     for i in 0..3 * triangles {
-        least = walk_from::<P>(triangles, rows, corners, across, HalfEdgeId(i as u16), least, opened);
+        least = walk_from::<P>(
+            triangles,
+            rows,
+            corners,
+            across,
+            HalfEdgeId(i as u16),
+            least,
+            opened,
+        );
     }
-    if least < 3 * triangles { Some(least) } else { None }
+    if least < 3 * triangles {
+        Some(least)
+    } else {
+        None
+    }
 }
 
 // The first corner that is not marked.

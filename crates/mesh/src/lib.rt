@@ -1,3 +1,4 @@
 // What a mesh means, when it is sound, and the test of lists that says which.
 mod fans;
 mod scans;
+pub mod validation;

@@ -47,7 +47,12 @@ pub fn first_far_corner(corners: &[VertexId], vertices: usize) -> Option<usize>
 }
 
 // The point at a corner.
-pub fn spot_of<P: PointKind>(triangles: usize, rows: &[P::Row], corners: &[VertexId], h: HalfEdgeId) -> P
+pub fn spot_of<P: PointKind>(
+    triangles: usize,
+    rows: &[P::Row],
+    corners: &[VertexId],
+    h: HalfEdgeId,
+) -> P
     requires readable { ⌜ Readable (lists triangles (map written (now rows)) (now corners) []) ⌝ }
     requires there { ⌜ h .0 < 3 * triangles ⌝ }
     ensures { λ r. ⌜ at r ≡ spot (listed (lists triangles (map written (now (rows .entry))) (now (corners .entry)) [])) h ⌝ }
@@ -59,7 +64,12 @@ pub fn spot_of<P: PointKind>(triangles: usize, rows: &[P::Row], corners: &[Verte
     }
 }
 
-fn turn_of<P: PointKind>(triangles: usize, rows: &[P::Row], corners: &[VertexId], t: TriangleId) -> Turn
+fn turn_of<P: PointKind>(
+    triangles: usize,
+    rows: &[P::Row],
+    corners: &[VertexId],
+    t: TriangleId,
+) -> Turn
     requires readable { ⌜ Readable (lists triangles (map written (now rows)) (now corners) []) ⌝ }
     requires there { ⌜ t .0 < triangles ⌝ }
     ensures { λ r. ⌜ r ≡ triangleTurn (listed (lists triangles (map written (now (rows .entry))) (now (corners .entry)) [])) t ⌝ }
@@ -71,7 +81,11 @@ fn turn_of<P: PointKind>(triangles: usize, rows: &[P::Row], corners: &[VertexId]
 }
 
 // The first triangle that does not turn left.
-pub fn first_wrong_turn<P: PointKind>(triangles: usize, rows: &[P::Row], corners: &[VertexId]) -> Option<usize>
+pub fn first_wrong_turn<P: PointKind>(
+    triangles: usize,
+    rows: &[P::Row],
+    corners: &[VertexId],
+) -> Option<usize>
     requires { ⌜ Readable (lists triangles (map written (now rows)) (now corners) []) ⌝ }
     ensures { λ r. ⌜ FirstBad (λ k. TurnsLeft (listed (lists triangles (map written (now (rows .entry))) (now (corners .entry)) [])) (triangle k)) triangles r ⌝ }
 {
@@ -111,7 +125,13 @@ fn share_ends(triangles: usize, corners: &[VertexId], h: HalfEdgeId, d: HalfEdge
 }
 
 // Whether two sides lead to each other and share their ends crosswise.
-fn are_twins(triangles: usize, corners: &[VertexId], across: &[HalfEdgeId], h: HalfEdgeId, d: HalfEdgeId) -> bool
+fn are_twins(
+    triangles: usize,
+    corners: &[VertexId],
+    across: &[HalfEdgeId],
+    h: HalfEdgeId,
+    d: HalfEdgeId,
+) -> bool
     requires sized { ⌜ Sized (lists triangles [] (now corners) (now across)) ⌝ }
     requires there { ⌜ h .0 < 3 * triangles ⌝ }
     ensures { λ r. ⌜ Decides r (Twins (listed (lists triangles [] (now (corners .entry)) (now (across .entry)))) h d) ⌝ }
@@ -137,7 +157,11 @@ fn is_paired(triangles: usize, corners: &[VertexId], across: &[HalfEdgeId], h: H
 }
 
 // The first side that is neither boundary nor paired with its twin.
-pub fn first_unpaired(triangles: usize, corners: &[VertexId], across: &[HalfEdgeId]) -> Option<usize>
+pub fn first_unpaired(
+    triangles: usize,
+    corners: &[VertexId],
+    across: &[HalfEdgeId],
+) -> Option<usize>
     requires { ⌜ Sized (lists triangles [] (now corners) (now across)) ⌝ }
     ensures { λ r. ⌜ FirstBad (λ k. Paired (listed (lists triangles [] (now (corners .entry)) (now (across .entry)))) (halfEdge k)) (3 * triangles) r ⌝ }
 {

@@ -6,5 +6,5 @@ use Rattle.mesh.proofs.scans.first_wrong_turn.Needs as need
 
 pub loop-i-again : need.loop-i-again
 loop-i-again g c =
-  let left : c .turn-of .result ≡ Left = search needs in
-  below-more _ _ (c .loop-i .inv) (sym (c .turn-of .ensures) ∙ left)
+    let left : c .turn-of .result ≡ Left = search needs in
+    below-more _ _ (c .loop-i .inv) (sym (c .turn-of .ensures) ∙ left)

@@ -7,5 +7,5 @@ use Rattle.mesh.proofs.scans.twin_of.Needs as need
 -- a read within the list does not depend on the default
 pub returns : need.returns
 returns c =
-  let ds = c .args .across .now in
-  c .leads .ensures ∙ ap (λ k. leads (getD ds k (half-edge 0))) (c .place .ensures) ∙ ap leads (getD-default ds (c .args .h .0) (half-edge 0) boundary (c .pre))
+    let ds = c .args .across .now in
+    c .leads .ensures ∙ ap (λ k. leads (getD ds k (half-edge 0))) (c .place .ensures) ∙ ap leads (getD-default ds (c .args .h .0) (half-edge 0) boundary (c .pre))
