@@ -5,3 +5,5 @@ pub mod FanWalk
 pub mod AllFans
 pub mod FirstRefusal
 pub mod ListStages
+pub mod FansEnding
+pub mod OneVerdict
