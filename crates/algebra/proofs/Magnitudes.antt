@@ -1,5 +1,5 @@
 -- How large sums and products of whole numbers are, and when they fit a machine integer.
-use mathlib.Core.Path.{_≡_, refl, sym, ap, _∙_}
+use mathlib.Core.Path.{_≡_, refl, sym, ap, _∙_, subst}
 use mathlib.Core.Logic.{_⊎_, inl, inr}
 use mathlib.Core.Bool.{Bool, true, false, cond, _&&_, _||_}
 use Prim.Native.Nat.{ℕ, zero, suc, _+_, _*_, _<_, _≤_, _^_}
@@ -103,3 +103,53 @@ added e f = λ i. e i +ℤ f i
 
 pub taken : {a b c d : ℤ} → a ≡ c → b ≡ d → a +ℤ negℤ b ≡ c +ℤ negℤ d
 taken e f = λ i. e i +ℤ negℤ (f i)
+
+-- ---- the two sums of a product of offsets, as the code makes them
+abbrev bits : ℤ → ℤ
+bits z = toZ w64 (ofZ w64 z)
+
+fits : (n : ℕ) (z : ℤ) → n ≤ 2000000000 → Within n z → SFits w64 z
+fits n z h (l, u) = omega (arith, ints)
+
+pub double-fits : (b : ℤ) → Within 400000000 b → SFits w64 (bits b +ℤ bits b)
+double-fits b (l, u) =
+    let f : SFits w64 b = fits 400000000 b (omega arith) (l, u) in
+    let d : SFits w64 (b +ℤ b) = omega (arith, ints) in
+    simp toZ-ofZ d
+
+pub sum-fits : (a b : ℤ) → Within 400000000 a → Within 800000000 b → SFits w64 (bits a +ℤ bits b)
+sum-fits a b (al, au) (bl, bu) =
+    let f : SFits w64 a = fits 400000000 a (omega arith) (al, au) in
+    let g : SFits w64 b = fits 800000000 b (omega arith) (bl, bu) in
+    let d : SFits w64 (a +ℤ b) = omega (arith, ints) in
+    simp toZ-ofZ d
+
+pub sum-is : (m n : ℕ) (a b : ℤ) → m ≤ 1000000000 → n ≤ 1000000000 → Within m a → Within n b → bits (bits a +ℤ bits b) ≡ a +ℤ b
+sum-is m n a b hm hn (al, au) (bl, bu) =
+    let f : SFits w64 a = fits m a (omega arith) (al, au) in
+    let g : SFits w64 b = fits n b (omega arith) (bl, bu) in
+    let d : SFits w64 (a +ℤ b) = omega (arith, ints) in
+    simp toZ-ofZ
+
+pub within-sum : (m n : ℕ) (a b : ℤ) → Within m a → Within n b → Within (m + n) (a +ℤ b)
+within-sum m n a b (al, au) (bl, bu) = (omega (arith, ints), omega (arith, ints))
+
+pub double-is : (b : ℤ) → Within 400000000 b → bits b +ℤ bits b ≡ b +ℤ b
+double-is b w =
+    let f : SFits w64 b = fits 400000000 b (omega arith) w in
+    simp toZ-ofZ
+
+pub within-double : (b : ℤ) → Within 400000000 b → Within 800000000 (bits b +ℤ bits b)
+within-double b w = subst (Within 800000000) (sym (double-is b w)) (within-sum 400000000 400000000 b b w w)
+
+pub area-is : (a b : ℤ) → Within 400000000 a → Within 400000000 b → bits (bits a +ℤ bits (bits b +ℤ bits b)) ≡ a +ℤ (b +ℤ b)
+area-is a b v w = sum-is 400000000 800000000 a (bits b +ℤ bits b) (omega arith) (omega arith) v (within-double b w) ∙ ap (λ n. a +ℤ n) (double-is b w)
+
+pub within-area : (a b : ℤ) → Within 400000000 a → Within 400000000 b → Within 1200000000 (bits (bits a +ℤ bits (bits b +ℤ bits b)))
+within-area a b v w = subst (Within 1200000000) (sym (area-is a b v w)) (within-sum 400000000 800000000 a (b +ℤ b) v (within-sum 400000000 400000000 b b w w))
+
+pub within-pair : (a b : ℤ) → Within 400000000 a → Within 400000000 b → Within 800000000 (bits (bits a +ℤ bits b))
+within-pair a b v w = subst (Within 800000000) (sym (sum-is 400000000 400000000 a b (omega arith) (omega arith) v w)) (within-sum 400000000 400000000 a b v w)
+
+pub pair-fits : (a b : ℤ) → Within 400000000 a → Within 400000000 b → SFits w64 (bits a +ℤ bits b)
+pair-fits a b v (l, u) = sum-fits a b v (omega (arith, ints), omega (arith, ints))

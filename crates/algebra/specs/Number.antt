@@ -8,6 +8,7 @@
 -- quadratics    the numbers with their operations and order, for the abstract laws
 -- OrderedRing   that they are an ordered commutative ring
 -- SignsSay      that the sign is the right one for every number
+-- CloseCalls    signs of numbers near 0, at which a decimal for √2 goes wrong
 use mathlib.Core.Path.{_≡_}
 use mathlib.Core.Bool.{Bool, true, false, cond, _&&_, _||_}
 use Prim.Native.Nat.{zero as nought, suc}
@@ -90,3 +91,7 @@ quadratics = record { carrier = Number; ops = quadratic-ops; Pos = Positive }
 
 abbrev pub OrderedRing : Type 0
 OrderedRing = OrderedRingLaws quadratics
+
+-- 7 − 5√2 < 0 < 17 − 12√2, and 239 − 169√2 < 0
+abbrev pub CloseCalls : Type 0
+CloseCalls = (sign (number (pos 7) (negsuc 4)) ≡ Minus) × (sign (number (pos 17) (negsuc 11)) ≡ Plus) × (sign (number (pos 239) (negsuc 168)) ≡ Minus)

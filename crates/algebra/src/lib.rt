@@ -1,42 +1,18 @@
-// Exact numbers p + q√2, in three sizes. The size stands in the type, so that no operation can overflow and none asks anything of its caller.
+// Exact numbers p + q√2. Their size stands in the type, so that no operation can overflow and none asks anything of its caller.
 ghost use Rattle.algebra.specs.Bounds.{Within};
 
 pub mod laws;
 pub mod numbers;
-pub mod offsets;
-mod signs;
+pub mod signs;
 
-#[derive(Clone, Copy, PartialEq, Eq, Debug)]
+#[derive(Clone, Copy, PartialEq, Eq)]
 pub enum Sign {
     Minus,
     Zero,
     Plus,
 }
 
-// A coordinate of a point: both parts from -10,000 to 10,000.
-#[derive(Clone, Copy)]
-pub struct Coordinate {
-    pub p: i32,
-    pub q: i32,
-    ghost p_within: { Within 10000 p },
-    ghost q_within: { Within 10000 q },
-}
-
-// A part of an offset, from -20,000 to 20,000.
-#[derive(Clone, Copy)]
-pub struct Part {
-    pub n: i32,
-    ghost within: { Within 20000 n },
-}
-
-// A difference of two coordinates.
-#[derive(Clone, Copy)]
-pub struct Offset {
-    pub p: Part,
-    pub q: Part,
-}
-
-// What measures and products of offsets are: both parts from -10^18 to 10^18.
+// A number with both parts from -10^18 to 10^18: room for the products and measures of everything that a mesh holds.
 #[derive(Clone, Copy)]
 pub struct Quadratic {
     pub p: i64,

@@ -6,7 +6,7 @@ use Rattle.algebra.specs.Arithmetic.{Nn}
 use Rattle.algebra.specs.Number.{Number, zero, minus, sign, Signed, _⊕_, _⊖_, _⊛_, quadratics}
 use Rattle.algebra.specs.Order.{AtMost}
 use Rattle.algebra.specs.Plane.{Vec}
-use Rattle.algebra.specs.Values.{signless, magnitude}
+use Rattle.coordinates.specs.Sizes.{signless, magnitude}
 use Rattle.algebra.specs.declared.Sign.{Sign}
 use Rattle.algebra.specs.declared.Sign.the-variants.{Minus, Zero, Plus}
 use Rattle.algebra.proofs.RingSolver.{ring, _:+_, _:-_, _:*_, :-_, _:=_, :0, :1}

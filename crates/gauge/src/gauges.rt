@@ -6,10 +6,10 @@ ghost use Rattle.geometry.specs.Points.{step-value as stepValue};
 ghost use Rattle.gauge.specs.Measure.{Form, at, measure, top, larger, Lawful};
 ghost use Rattle.gauge.specs.Forms.{form-value as formValue};
 use crate::LinearForm;
-use algebra::Offset;
 use algebra::Quadratic;
 use algebra::Sign;
-use algebra::offsets::dot;
+use coordinates::Offset;
+use coordinates::products::dot;
 use geometry::Step;
 
 pub trait Gauge {

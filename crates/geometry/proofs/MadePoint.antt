@@ -8,8 +8,8 @@ use Rattle.std.proofs.shelf.Signed.{ints}
 use Rattle.std.specs.declared.option.Option.the-variants.{Some, None}
 use Rattle.algebra.specs.Bounds.{Within}
 use Rattle.algebra.specs.Number.{Number, number}
-use Rattle.algebra.specs.Values.{coordinate-value}
-use Rattle.algebra.specs.declared.Coordinate.{Coordinate}
+use Rattle.coordinates.specs.Sizes.{coordinate-value}
+use Rattle.coordinates.specs.declared.Coordinate.{Coordinate}
 use Rattle.geometry.specs.Plane.{Point, point}
 use Rattle.geometry.specs.Ranges.{in-range, number-in-range, point-refusal}
 

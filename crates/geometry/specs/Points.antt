@@ -4,7 +4,7 @@
 use lib.IntN.{pos}
 use Rattle.algebra.specs.Number.{Number, number}
 use Rattle.algebra.specs.Plane.{Vec}
-use Rattle.algebra.specs.Values.{offset-value, coordinate-value}
+use Rattle.coordinates.specs.Sizes.{offset-value, coordinate-value}
 use Rattle.geometry.specs.declared.Step.{Step}
 use Rattle.geometry.specs.declared.IntegerPoint.{IntegerPoint}
 use Rattle.geometry.specs.declared.QuadraticPoint.{QuadraticPoint}

@@ -1,15 +1,15 @@
 // What every kind of point answers. Steps and turns are written once, for all kinds.
 ghost use mathlib.Core.Path.{_≡_};
-ghost use Rattle.algebra.specs.Values.{coordinate-value as coordinateValue};
+ghost use Rattle.coordinates.specs.Sizes.{coordinate-value as coordinateValue};
 ghost use Rattle.geometry.specs.Plane.{Point, step, turn, mirror};
 ghost use Rattle.geometry.specs.Points.{step-value as stepValue};
 ghost use Rattle.geometry.specs.Ranges.{Made};
 use crate::Step;
 use crate::Turn;
-use algebra::Coordinate;
 use algebra::Sign;
-use algebra::offsets::cross;
 use base::refusals::Refusal;
+use coordinates::Coordinate;
+use coordinates::products::cross;
 
 pub trait PointKind: Copy {
     // Plain coordinates of such a point.

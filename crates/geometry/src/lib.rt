@@ -1,12 +1,12 @@
 // Points with exact coordinates, the steps between them, and the way in which three of them turn.
 ghost use Rattle.algebra.specs.Bounds.{Within};
-use algebra::Coordinate;
-use algebra::Offset;
+use coordinates::Coordinate;
+use coordinates::Offset;
 
 pub mod kinds;
 pub mod points;
 
-#[derive(Clone, Copy, PartialEq, Eq, Debug)]
+#[derive(Clone, Copy, PartialEq, Eq)]
 pub enum Turn {
     Left,
     Straight,

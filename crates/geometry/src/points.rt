@@ -6,9 +6,9 @@ use crate::IntegerRow;
 use crate::QuadraticPoint;
 use crate::QuadraticRow;
 use crate::kinds::PointKind;
-use algebra::Coordinate;
 use base::refusals::Axis;
 use base::refusals::Refusal;
+use coordinates::Coordinate;
 
 // The largest coordinate, and the opposite of the smallest.
 const LIMIT: i32 = 10_000;

@@ -1,5 +1,5 @@
 // How numbers, points and turns are written.
-use algebra::Coordinate;
+use coordinates::Coordinate;
 use gauge::Length;
 use geometry::Turn;
 use geometry::kinds::PointKind;

@@ -4,7 +4,7 @@ use mir.Syntax.{w8}
 use mir.Val.{SFits}
 use mir.Facts.{toZ-ofZ}
 use Rattle.algebra.specs.Number.{number, _⊕_, _⊛_}
-use Rattle.algebra.specs.Values.{offset-value}
+use Rattle.coordinates.specs.Sizes.{offset-value}
 use Rattle.gauge.proofs.LinearForm.at.Needs as need
 
 pub returns : need.returns
