@@ -1,0 +1,3 @@
+pub mod SheetCells
+pub mod Turns
+pub mod FanOrder
