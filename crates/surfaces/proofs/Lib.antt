@@ -1,3 +1,14 @@
-pub mod SheetCells
+pub mod Codes
 pub mod Turns
 pub mod FanOrder
+pub mod SheetCells
+pub mod SheetTwins
+pub mod SheetGrid
+pub mod SheetFans
+pub mod SheetLawful
+pub mod SheetEnds
+pub mod FanRays
+pub mod Pigeonhole
+pub mod FanEnds
+pub mod MirroredLawful
+pub mod BarredLawful

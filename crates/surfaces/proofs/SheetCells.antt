@@ -11,7 +11,7 @@ use lib.Arith.{digits-div, digits-mod, digits-lt}
 use Rattle.std.proofs.shelf.Ways.{tells, leb-tells}
 use Rattle.base.specs.declared.ids.HalfEdgeId.{HalfEdgeId}
 use Rattle.base.specs.Ids.{half-edge}
-use Rattle.surfaces.specs.Sheet.{Cell, cell, odd, kept, pair, cell-number, cell-in, numbered, cells, Edge, bottom, right, down, up, top, left, edge, edge-number, code}
+use Rattle.surfaces.specs.Sheet.{Cell, cell, odd, kept, pair, cell-number, cell-in, numbered, cells, Edge, bottom, right, down, up, top, left, edge, edge-number, code, CellsByNumber}
 
 pub record Kept (a b : ℕ) (q : Cell) : Type 0 where
   pub columns : q .column ≤ 2 * a
@@ -28,7 +28,7 @@ of-kept a b q k = grind (arith, tells, k .no-hole)
 abbrev offset : ℕ → Cell → ℕ
 offset a q = cond (odd (q .row)) (2 * a + 1 + q .column / 2) (q .column)
 
-below-test : (m n : ℕ) → m < n → ltb m n ≡ true
+pub below-test : (m n : ℕ) → m < n → ltb m n ≡ true
 below-test m n h = grind (arith, tells)
 
 offset-below : (a b : ℕ) (q : Cell) → Kept a b q → offset a q < pair a
@@ -49,7 +49,7 @@ number-below a b q k = elim (split (q .row / 2) b) [
       omega (arith, ap (λ m. m * pair a) e, offset-even a q z, k .columns)
 ]
 
-same-cell : {p q : Cell} → p .column ≡ q .column → p .row ≡ q .row → p ≡ q
+pub same-cell : {p q : Cell} → p .column ≡ q .column → p .row ≡ q .row → p ≡ q
 same-cell e f = λ i. record { column = e i; row = f i }
 
 in-pair : (a b : ℕ) (q : Cell) → Kept a b q → cell-in a (q .row / 2) (offset a q) ≡ q
@@ -104,6 +104,9 @@ pub numbered-kept : (a b n : ℕ) → n < cells a b → Kept a b (numbered a n)
 numbered-kept a b n h =
     let z : 0 < pair a = omega arith in
     kept-in a b (n / pair a) (n % pair a) (mod-lt n z) (rw (div-add-mod' n (pair a)) h)
+
+pub cells-by-number : (a b : ℕ) → CellsByNumber a b
+cells-by-number a b = (λ q k. (number-below a b q (kept-of a b q k), numbered-number a b q (kept-of a b q k)), λ n h. (of-kept a b (numbered a n) (numbered-kept a b n h), number-numbered a n))
 
 -- ---- half-edges of cells
 pub edge-small : (e : Edge) → edge-number e < 6

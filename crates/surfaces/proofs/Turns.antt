@@ -50,6 +50,15 @@ neg-right a b c p = by-minus (sign (doubled-area a b c)) (doubled-area a b c) (s
 pub not-right : (a b c : Point) → NotRight (turn a b c) → Nn quadratics (step a b ⋀ step a c)
 not-right a b c h = record { not-neg = λ p. h (neg-right a b c p) }
 
+right-by : (s : Sign) (n : Number) → Signed s n → turn-by s ≡ Right → Positive (minus n)
+right-by Plus n h e = absurd (let z : _≡_ {A = ℕ} 0 1 = cc in omega arith)
+right-by Zero n h e = absurd (let z : _≡_ {A = ℕ} 0 1 = cc in omega arith)
+right-by Minus n h e = h
+
+pub nn-not-right : (a b c : Point) → Nn quadratics (step a b ⋀ step a c) → NotRight (turn a b c)
+unfolding _⊗_
+nn-not-right a b c h e = h .not-neg (right-by (sign (doubled-area a b c)) (doubled-area a b c) (signs-say (doubled-area a b c)) e)
+
 -- the same triangle, read from its next corner
 rolled : (a b c : Point) → doubled-area a b c ≡ doubled-area b c a
 rolled = ringV (base quadratic-ring) 3 0 (λ a b c. less E b a :× less E c a := less E c b :× less E a b) refl

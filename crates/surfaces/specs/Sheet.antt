@@ -14,18 +14,21 @@
 -- grid-vertex     the vertex of a column and a row
 -- grid-point      the point of a column and a row
 -- sheet           the surface of it all; past its end it answers vertex 0, the origin and boundary
-use mathlib.Core.Bool.{Bool, cond, not, _&&_}
-use Prim.Native.Nat.{ℕ, zero, suc, _+_, _-_, _*_, _/_, _%_}
+-- CellsByNumber   kept cells and the numbers below their count are the same thing: each leads to the other and back
+-- TwinsByEnds     two half-edges of the sheet are twins exactly if each runs from the other's end to its start
+use mathlib.Core.Path.{_≡_}
+use mathlib.Core.Bool.{Bool, true, cond, not, _&&_}
+use Prim.Native.Nat.{ℕ, zero, suc, _+_, _-_, _*_, _/_, _%_, _<_}
 use lib.Dec.{eqb, leb, ltb}
 use lib.IntN.{pos}
 use Rattle.std.specs.declared.option.Option.{Option}
 use Rattle.std.specs.declared.option.Option.the-variants.{Some, None}
 use Rattle.base.specs.declared.ids.VertexId.{VertexId}
 use Rattle.base.specs.declared.ids.HalfEdgeId.{HalfEdgeId}
-use Rattle.base.specs.Ids.{vertex, half-edge}
+use Rattle.base.specs.Ids.{vertex, half-edge, next}
 use Rattle.algebra.specs.Number.{number}
 use Rattle.geometry.specs.Plane.{Point, point, origin}
-use Rattle.mesh.specs.Surface.{Surface}
+use Rattle.mesh.specs.Surface.{Surface, Has}
 
 pub record Cell : Type 0 where
   pub column : ℕ
@@ -143,3 +146,13 @@ sheet a b g = record {
   point = λ v. cond (ltb (v .0) (width a * width b)) (grid-point g (v .0 % width a) (v .0 / width a)) origin;
   twin = λ h. cond (ltb (h .0) (6 * cells a b)) (sheet-twin a b (numbered a (h .0 / 6)) (edge (h .0 % 6))) None;
 }
+
+abbrev pub CellsByNumber : ℕ → ℕ → Type 0
+CellsByNumber a b =
+    ((q : Cell) → kept a b q ≡ true → (cell-number a q < cells a b) × (numbered a (cell-number a q) ≡ q))
+    × ((n : ℕ) → n < cells a b → (kept a b (numbered a n) ≡ true) × (cell-number a (numbered a n) ≡ n))
+
+abbrev pub TwinsByEnds : ℕ → ℕ → ℕ → Type 0
+TwinsByEnds a b g = (h d : HalfEdgeId) → Has (sheet a b g) h → Has (sheet a b g) d →
+    (sheet a b g .twin h ≡ Some d → (sheet a b g .corner h ≡ sheet a b g .corner (next d)) × (sheet a b g .corner (next h) ≡ sheet a b g .corner d))
+    × ((sheet a b g .corner h ≡ sheet a b g .corner (next d)) × (sheet a b g .corner (next h) ≡ sheet a b g .corner d) → sheet a b g .twin h ≡ Some d)
