@@ -8,15 +8,11 @@ use Rattle.std.specs.declared.option.Option.{Option}
 use Rattle.std.specs.declared.option.Option.the-variants.{Some, None}
 use Rattle.base.specs.declared.ids.HalfEdgeId.{HalfEdgeId}
 use Rattle.base.specs.Ids.{next, previous}
-use Rattle.algebra.proofs.OrderedRing.{nn-eq}
-use Rattle.algebra.proofs.Quadratics.{quadratic-ring}
-use Rattle.geometry.specs.Plane.{step}
-use Rattle.mesh.specs.Surface.{Surface, Has, Ended, spot, Twins, on, Later, one, more, Opens, edge, across, Covers}
-use Rattle.mesh.specs.Sound.{Sound, Paired, FallsShort}
+use Rattle.mesh.specs.Surface.{Surface, Has, Later, one, more, Opens, edge, across}
+use Rattle.mesh.specs.Sound.{Sound, Paired}
 use Rattle.surfaces.specs.Lawful.{Lawful}
 use Rattle.surfaces.specs.Layers.{barred, among, unless-barred}
-use Rattle.surfaces.proofs.Turns.{_⋀_, not-right}
-use Rattle.surfaces.proofs.FanRays.{In, first-ray, last-ray, apart, later-spot}
+use Rattle.surfaces.proofs.FanRays.{covers-not}
 
 -- what is shown stands below, and neither side is barred
 shown : (bars : List HalfEdgeId) (h d : HalfEdgeId) (o : Option HalfEdgeId) → unless-barred bars h o ≡ Some d → (o ≡ Some d) × ((among bars h || among bars d) ≡ false)
@@ -63,21 +59,13 @@ module _ (bars : List HalfEdgeId) (f : Surface) (sound : Sound f) where
   below {s} {h} (one o) = one (shown bars (previous s) h (f .twin (previous s)) o .0)
   below {s} {h} (more {g = x} l o) = more (below l) (shown bars (previous x) h (f .twin (previous x)) o .0)
 
-  short : (h : HalfEdgeId) → FallsShort g h
-  short h s l _ k v =
-      let j = below k in
-      let e : step (spot f h) (spot f (next s)) ≡ step (spot f s) (spot f (next s)) = ap (λ p. step p (spot f (next s))) (later-spot f sound l j) in
-      apart f sound l j
-      (nn-eq quadratic-ring (ap (λ v. first-ray f sound h ⋀ v) e) (not-right (spot f h) (spot f (next h)) (spot f (next s)) (v .0)),
-        nn-eq quadratic-ring (ap (λ v. v ⋀ last-ray f sound h) e) (not-right (spot f h) (spot f (next s)) (spot f (previous h)) (v .1)))
-
   pub barred-sound : Sound g
   barred-sound = record {
     corners = sound .corners;
     turns = sound .turns;
     twins = pairs;
     fans = λ h l. opened (sound .fans h l);
-    spans = λ h _. short h;
+    spans = λ h _ s l _ k. covers-not f sound s h l (below k);
   }
 
 pub barred-lawful : (bars : List HalfEdgeId) (f : Surface) → Lawful f → Lawful (barred bars f)

@@ -17,10 +17,12 @@ use Rattle.algebra.proofs.OrderedRing.{pos-eq, nn-eq}
 use Rattle.algebra.proofs.Quadratics.{quadratic-ring}
 use Rattle.geometry.specs.Plane.{Point, step, turn}
 use Rattle.geometry.specs.declared.Turn.the-variants.{Left}
-use Rattle.mesh.specs.Surface.{Surface, Has, spot, Twins, on, Later, one, more, Opens, edge, across, Covers}
+use Rattle.mesh.specs.Surface.{Surface, Has, spot, Twins, on, Later, one, more, Opens, edge, across, Covers, NotRight}
 use Rattle.mesh.specs.Sound.{Sound}
+use Rattle.surfaces.specs.Lawful.{Lawful}
 use Rattle.surfaces.proofs.Codes.{next-previous, previous-next, previous-below}
-use Rattle.surfaces.proofs.Turns.{_⋀_, left-pos, nn-not-right, turn-rolled}
+use Rattle.surfaces.specs.Laws.{RaysApart}
+use Rattle.surfaces.proofs.Turns.{_⋀_, left-pos, not-right, nn-not-right, turn-rolled}
 use Rattle.surfaces.proofs.FanOrder as order
 use Rattle.surfaces.proofs.FanOrder.{Phase, early, Before}
 
@@ -147,3 +149,21 @@ module _ (f : Surface) (sound : Sound f) where
       let m = later-has l k in
       let j = order.steps-back quadratic-ring (first-ray h) (last-ray h) (first-ray s) (last-ray s) (ray-turn h l) (ray-turn s (on-has g s m o)) (apart l (more k o)) i in
       apart-before l k (subst (λ v. In v (first-ray h) (last-ray h)) (sym (on-ray g s m o)) j)
+
+  -- the same, said by turns
+  pub covers-not : (s h : HalfEdgeId) → Has f s → Later f s h → Covers f s h → ⊥
+  covers-not s h l k v =
+      let e : step (spot f h) (spot f (next s)) ≡ step (spot f s) (spot f (next s)) = ap (λ p. step p (spot f (next s))) (later-spot l k) in
+      apart l k
+      (nn-eq quadratic-ring (ap (λ v. first-ray h ⋀ v) e) (not-right (spot f h) (spot f (next h)) (spot f (next s)) (v .0)),
+        nn-eq quadratic-ring (ap (λ v. v ⋀ last-ray h) e) (not-right (spot f h) (spot f (next s)) (spot f (previous h)) (v .1)))
+
+  pub covers-not-before : (h s : HalfEdgeId) → Has f h → Later f h s → NotRight (turn (spot f h) (spot f (next h)) (spot f (previous s))) × NotRight (turn (spot f h) (spot f (previous s)) (spot f (previous h))) → ⊥
+  covers-not-before h s l k v =
+      let e : step (spot f h) (spot f (previous s)) ≡ last-ray s = ap (λ p. step p (spot f (previous s))) (sym (later-spot l k)) in
+      apart-before l k
+      (nn-eq quadratic-ring (ap (λ v. first-ray h ⋀ v) e) (not-right (spot f h) (spot f (next h)) (spot f (previous s)) (v .0)),
+        nn-eq quadratic-ring (ap (λ v. v ⋀ last-ray h) e) (not-right (spot f h) (spot f (previous s)) (spot f (previous h)) (v .1)))
+
+pub rays-apart : RaysApart
+rays-apart f w s h l k = (covers-not f (w .sound) s h l k, covers-not-before f (w .sound) s h l k)

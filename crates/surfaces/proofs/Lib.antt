@@ -12,3 +12,6 @@ pub mod Pigeonhole
 pub mod FanEnds
 pub mod MirroredLawful
 pub mod BarredLawful
+pub mod SheetAnswers
+pub mod LayerTwins
+pub mod BarredLists

@@ -11,17 +11,15 @@ use Rattle.base.specs.declared.ids.TriangleId.{TriangleId}
 use Rattle.base.specs.declared.ids.HalfEdgeId.{HalfEdgeId}
 use Rattle.base.specs.Ids.{half-edge, side, next, previous, mirror-side, mirror-corner}
 use Rattle.algebra.specs.Number.{Number, number, minus}
-use Rattle.algebra.proofs.OrderedRing.{nn-eq}
-use Rattle.algebra.proofs.Quadratics.{quadratic-ring}
-use Rattle.geometry.specs.Plane.{Point, point, step, turn, mirror}
+use Rattle.geometry.specs.Plane.{Point, point, turn, mirror}
 use Rattle.geometry.specs.declared.Turn.{Turn}
 use Rattle.mesh.specs.Surface.{Surface, Has, Ended, spot, triangle-turn, Twins, on, Later, one, more, Opens, edge, across, NotRight, Covers}
 use Rattle.mesh.specs.Sound.{Sound, TurnsLeft, Paired, FallsShort}
 use Rattle.surfaces.specs.Lawful.{Lawful, Alike}
 use Rattle.surfaces.specs.Layers.{mirrored, renamed}
 use Rattle.surfaces.proofs.Codes.{side-twice, corner-twice, corner-from-side, side-from-corner, corner-of-next, corner-of-previous, side-of-previous, side-below, corner-below, side-past, corner-past}
-use Rattle.surfaces.proofs.Turns.{_⋀_, not-right, turn-mirrored}
-use Rattle.surfaces.proofs.FanRays.{In, first-ray, last-ray, later-cons, later-has, later-spot, apart-before}
+use Rattle.surfaces.proofs.Turns.{turn-mirrored}
+use Rattle.surfaces.proofs.FanRays.{later-cons, covers-not-before}
 use Rattle.surfaces.proofs.FanEnds.{Ends, stop, go, ends}
 
 unrenamed : (o : Option HalfEdgeId) (d : HalfEdgeId) → renamed o ≡ Some d → o ≡ Some (mirror-side d)
@@ -97,10 +95,7 @@ module _ (f : Surface) (sound : Sound f) where
       let far : spot f (mirror-corner (previous h)) ≡ spot f (next H) = ap (spot f) (corner-of-previous h) in
       let a : turn (mirror (spot f H)) (mirror (spot f (mirror-corner (next h)))) (mirror (spot f (mirror-corner (next s)))) ≡ turn (spot f H) (spot f (previous S)) (spot f (previous H)) = turn-mirrored (spot f H) (spot f (mirror-corner (next h))) (spot f (mirror-corner (next s))) ∙ ap₂ (turn (spot f H)) here near in
       let b : turn (mirror (spot f H)) (mirror (spot f (mirror-corner (next s)))) (mirror (spot f (mirror-corner (previous h)))) ≡ turn (spot f H) (spot f (next H)) (spot f (previous S)) = turn-mirrored (spot f H) (spot f (mirror-corner (next s))) (spot f (mirror-corner (previous h))) ∙ ap₂ (turn (spot f H)) far here in
-      let e : step (spot f H) (spot f (previous S)) ≡ last-ray f sound S = ap (λ p. step p (spot f (previous S))) (sym (later-spot f sound i j)) in
-      apart-before f sound i j
-      (nn-eq quadratic-ring (ap (λ v. first-ray f sound H ⋀ v) e) (not-right (spot f H) (spot f (next H)) (spot f (previous S)) (subst NotRight b (v .1))),
-        nn-eq quadratic-ring (ap (λ v. v ⋀ last-ray f sound H) e) (not-right (spot f H) (spot f (previous S)) (spot f (previous H)) (subst NotRight a (v .0))))
+      covers-not-before f sound H S i j (subst NotRight b (v .1), subst NotRight a (v .0))
 
   pub mirrored-sound : Sound m
   mirrored-sound = record {

@@ -73,10 +73,10 @@ number-high a m i =
     let w : 2 * i / 2 ≡ i = omega arith in
     rw (e, z, w)
 
-cell-low : (a m j : ℕ) → j < 2 * a + 1 → cell-in a m j ≡ cell j (2 * m)
+pub cell-low : (a m j : ℕ) → j < 2 * a + 1 → cell-in a m j ≡ cell j (2 * m)
 cell-low a m j h = let t : ltb j (2 * a + 1) ≡ true = grind (arith, tells) in rw t
 
-cell-high : (a m j : ℕ) → 2 * a + 1 ≤ j → cell-in a m j ≡ cell (2 * (j - (2 * a + 1))) (2 * m + 1)
+pub cell-high : (a m j : ℕ) → 2 * a + 1 ≤ j → cell-in a m j ≡ cell (2 * (j - (2 * a + 1))) (2 * m + 1)
 cell-high a m j h = let t : ltb j (2 * a + 1) ≡ false = grind (arith, tells) in rw t
 
 number-in : (a m j : ℕ) → cell-number a (cell-in a m j) ≡ m * pair a + j

@@ -14,6 +14,7 @@
 -- grid-vertex     the vertex of a column and a row
 -- grid-point      the point of a column and a row
 -- sheet           the surface of it all; past its end it answers vertex 0, the origin and boundary
+-- sheet-refusal   why a sheet cannot be made: more than 25 columns, or else more than 25 rows, or else a pitch that is not 3 to 100
 -- CellsByNumber   kept cells and the numbers below their count are the same thing: each leads to the other and back
 -- TwinsByEnds     two half-edges of the sheet are twins exactly if each runs from the other's end to its start
 use mathlib.Core.Path.{_≡_}
@@ -25,6 +26,9 @@ use Rattle.std.specs.declared.option.Option.{Option}
 use Rattle.std.specs.declared.option.Option.the-variants.{Some, None}
 use Rattle.base.specs.declared.ids.VertexId.{VertexId}
 use Rattle.base.specs.declared.ids.HalfEdgeId.{HalfEdgeId}
+use Rattle.base.specs.declared.refusals.SheetParameter.the-variants.{Columns, Rows, Pitch}
+use Rattle.base.specs.declared.refusals.Refusal.{Refusal}
+use Rattle.base.specs.declared.refusals.Refusal.the-variants.{SheetRange}
 use Rattle.base.specs.Ids.{vertex, half-edge, next}
 use Rattle.algebra.specs.Number.{number}
 use Rattle.geometry.specs.Plane.{Point, point, origin}
@@ -146,6 +150,10 @@ sheet a b g = record {
   point = λ v. cond (ltb (v .0) (width a * width b)) (grid-point g (v .0 % width a) (v .0 / width a)) origin;
   twin = λ h. cond (ltb (h .0) (6 * cells a b)) (sheet-twin a b (numbered a (h .0 / 6)) (edge (h .0 % 6))) None;
 }
+
+abbrev pub sheet-refusal : ℕ → ℕ → ℕ → Option Refusal
+sheet-refusal a b g =
+    cond (leb a 25) (cond (leb b 25) (cond (leb 3 g && leb g 100) None (Some (SheetRange Pitch))) (Some (SheetRange Rows))) (Some (SheetRange Columns))
 
 abbrev pub CellsByNumber : ℕ → ℕ → Type 0
 CellsByNumber a b =

@@ -1,1 +1,2 @@
-// The surfaces that meshes by formula and by layers mean, and why each is sound.
+// The surfaces that a mesh by formula and the layers mean, and why each is sound.
+pub mod laws;
