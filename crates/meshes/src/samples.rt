@@ -1,6 +1,6 @@
 // The sheet with one hole and the pitch 10, asked by calls; and layers that pile up.
 ghost use mathlib.Core.Path.{_≡_};
-ghost use mathlib.Core.List.{[], _∷_};
+ghost use lib.ListN.{getD};
 ghost use Rattle.std.specs.declared.option.Option.the-variants.{Some, None};
 ghost use Rattle.base.specs.Ids.{vertex, half-edge as halfEdge};
 use crate::Mesh;
@@ -26,7 +26,7 @@ pub fn small_counts() -> (u16, u16)
 
 // The corners of triangle 3.
 pub fn small_corners() -> [VertexId; 3]
-    ensures { λ r. ⌜ r ≡ vertex 1 ∷ vertex 6 ∷ vertex 5 ∷ [] ⌝ }
+    ensures { λ r. ⌜ (getD r 0 (vertex 0) ≡ vertex 1) × (getD r 1 (vertex 0) ≡ vertex 6) × (getD r 2 (vertex 0) ≡ vertex 5) ⌝ }
 {
     match PerforatedSheet::new(1, 1, 10) {
         Ok(sheet) => sheet.corners(TriangleId(3)),
