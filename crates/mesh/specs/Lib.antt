@@ -2,3 +2,4 @@ pub mod Surface
 pub mod Sound
 pub mod Lists
 pub mod Verdict
+pub mod Stages

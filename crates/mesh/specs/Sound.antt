@@ -6,13 +6,14 @@
 -- FallsShort     a corner is no later one of a fan whose first ray lies in its sector: where this holds of each corner, every fan spans less than a full turn
 -- AtEach         a rule holds at each half-edge of the surface
 -- Sound          all five hold everywhere
+-- FansEnd        on a sound surface going on in a fan comes to an end too: there are only so many corners, and none comes twice
 use mathlib.Core.Path.{_≡_}
 use Prim.Native.Nat.{_<_}
 use Rattle.std.specs.declared.option.Option.the-variants.{Some, None}
 use Rattle.base.specs.declared.ids.TriangleId.{TriangleId}
 use Rattle.base.specs.declared.ids.HalfEdgeId.{HalfEdgeId}
 use Rattle.geometry.specs.declared.Turn.the-variants.{Left}
-use Rattle.mesh.specs.Surface.{Surface, Has, triangle-turn, Twins, Later, Opens, Covers}
+use Rattle.mesh.specs.Surface.{Surface, Has, triangle-turn, Twins, Later, Opens, Ends, Covers}
 
 abbrev pub CornerBelow : Surface → HalfEdgeId → Type 0
 CornerBelow f h = f .corner h .0 < f .V
@@ -35,3 +36,6 @@ pub record Sound (f : Surface) : Type 0 where
   pub twins : AtEach f Paired
   pub fans : AtEach f Opens
   pub spans : AtEach f FallsShort
+
+abbrev pub FansEnd : Type 0
+FansEnd = (f : Surface) → Sound f → AtEach f Ends

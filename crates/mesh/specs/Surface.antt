@@ -7,6 +7,7 @@
 -- on          the corner that follows in the fan of a corner: across the side that runs into the corner
 -- Later       a corner follows another in its fan, one or more corners on
 -- Opens       the fan of a corner is open: going back, across the side that leaves the corner, reaches boundary
+-- Ends        the other way: going on from a corner reaches boundary too
 -- Covers      of the first corner of a fan and a later one: the first ray lies in the later triangle's sector at the vertex, its ends included
 -- A fan is seen from its vertex: the triangles follow one another counterclockwise, and a corner h has the rays to the corners next h and previous h.
 use mathlib.Core.Path.{_≡_}
@@ -58,6 +59,10 @@ pub data Later (f : Surface) (s : HalfEdgeId) : HalfEdgeId → Type 0 where
 pub data Opens (f : Surface) : HalfEdgeId → Type 0 where
   edge : {h : HalfEdgeId} → f .twin h ≡ None → Opens f h
   across : {h d : HalfEdgeId} → f .twin h ≡ Some d → Opens f (next d) → Opens f h
+
+pub data Ends (f : Surface) : HalfEdgeId → Type 0 where
+  edge-ahead : {h : HalfEdgeId} → on f h ≡ None → Ends f h
+  ahead : {h d : HalfEdgeId} → on f h ≡ Some d → Ends f d → Ends f h
 
 abbrev pub NotRight : Turn → Type 0
 NotRight t = t ≡ Right → ⊥

@@ -3,6 +3,7 @@
 -- Accepted    the lists keep the limits, every coordinate is in range, and the surface is sound
 -- Refused     the refusal tells the truth, and it is the first that does
 -- Verdict     the answer of a validation: accepted, or refused so
+-- VerdictsAgree   two verdicts on the same lists are the same: a verdict says which lists are accepted, and of all others which refusal they get
 -- FirstBad    of places from 0 on: the first that is not good, or none, if all below n are good
 use mathlib.Core.Path.{_≡_}
 use mathlib.Core.Logic.{_⊎_}
@@ -47,6 +48,9 @@ pub record Refused (l : Lists) (e : Refusal) : Type 0 where
 abbrev pub Verdict : {X : Type 0} → Lists → Result X Refusal → Type 0
 Verdict l (Ok x) = Accepted l
 Verdict l (Err e) = Refused l e
+
+abbrev pub VerdictsAgree : Type 0
+VerdictsAgree = (l : Lists) (r s : Result (Unit {0}) Refusal) → Verdict l r → Verdict l s → r ≡ s
 
 abbrev pub FirstBad : (ℕ → Type 0) → ℕ → Option ℕ → Type 0
 FirstBad Good n None = (k : ℕ) → k < n → Good k
