@@ -1,24 +1,9 @@
--- Half-edge codes: next and previous undo each other and stay in the triangle, and so do the renamings under a mirror.
+-- Half-edge codes under a mirror: each renaming undoes itself and stays in the triangle, and the two go together with next and previous.
 use mathlib.Core.Path.{_≡_, refl, sym, ap, _∙_}
 use Prim.Native.Nat.{ℕ, _+_, _-_, _*_, _/_, _%_, _<_, _≤_}
 use native.Mathlib.Omega.{arith}
 use Rattle.base.specs.declared.ids.HalfEdgeId.{HalfEdgeId}
 use Rattle.base.specs.Ids.{half-edge, side, triangle-of, index, next, previous, mirror-side, mirror-corner}
-
-pub next-previous : (h : HalfEdgeId) → next (previous h) ≡ h
-next-previous h = ap half-edge (omega arith)
-
-pub previous-next : (h : HalfEdgeId) → previous (next h) ≡ h
-previous-next h = ap half-edge (omega arith)
-
-pub next-next : (h : HalfEdgeId) → next (next h) ≡ previous h
-next-next h = ap half-edge (omega arith)
-
-pub next-below : (n : ℕ) (h : HalfEdgeId) → h .0 < 3 * n → next h .0 < 3 * n
-next-below n h l = omega arith
-
-pub previous-below : (n : ℕ) (h : HalfEdgeId) → h .0 < 3 * n → previous h .0 < 3 * n
-previous-below n h l = omega arith
 
 pub side-twice : (h : HalfEdgeId) → mirror-side (mirror-side h) ≡ h
 side-twice h = ap half-edge (omega arith)

@@ -17,10 +17,10 @@ use Rattle.algebra.proofs.OrderedRing.{pos-eq, nn-eq}
 use Rattle.algebra.proofs.Quadratics.{quadratic-ring}
 use Rattle.geometry.specs.Plane.{Point, step, turn}
 use Rattle.geometry.specs.declared.Turn.the-variants.{Left}
-use Rattle.mesh.specs.Surface.{Surface, Has, spot, Twins, on, Later, one, more, Opens, edge, across, Covers, NotRight}
+use Rattle.mesh.specs.Surface.{Surface, Has, spot, Twins, on, Later, one, more, Covers, NotRight}
 use Rattle.mesh.specs.Sound.{Sound}
 use Rattle.surfaces.specs.Lawful.{Lawful}
-use Rattle.surfaces.proofs.Codes.{next-previous, previous-next, previous-below}
+use Rattle.mesh.proofs.FanSteps.{next-previous, previous-within, on-within, later-within, opens-fan}
 use Rattle.surfaces.specs.Laws.{RaysApart}
 use Rattle.surfaces.proofs.Turns.{_⋀_, left-pos, not-right, nn-not-right, turn-rolled}
 use Rattle.surfaces.proofs.FanOrder as order
@@ -34,13 +34,6 @@ thirds n = elim (eqb-tells (n % 3) 0) [
   | inl t ↦ inl (t .1)
   | inr t ↦ elim (eqb-tells (n % 3) 1) [ inl u ↦ inr (inl (u .1)) | inr u ↦ inr (inr (omega (arith, t .1, u .1))) ]
 ]
-
--- the first corner of a fan, and the way from it
-pub record First (f : Surface) (h : HalfEdgeId) : Type 0 where
-  pub start : HalfEdgeId
-  pub has : Has f start
-  pub rim : f .twin start ≡ None
-  pub way : (start ≡ h) ⊎ Later f start h
 
 pub later-cons : {f : Surface} {g h s : HalfEdgeId} → on f h ≡ Some g → Later f g s → Later f h s
 later-cons o (one p) = more (one o) p
@@ -75,10 +68,7 @@ module _ (f : Surface) (sound : Sound f) where
 
   -- ---- one corner on
   pub on-twins : (h d : HalfEdgeId) → Has f h → on f h ≡ Some d → Twins f (previous h) d
-  on-twins h d l o = sound .twins (previous h) (previous-below (f .F) h l) d o
-
-  pub on-has : (h d : HalfEdgeId) → Has f h → on f h ≡ Some d → Has f d
-  on-has h d l o = on-twins h d l o .within
+  on-twins h d l o = sound .twins (previous h) (previous-within f h l) d o
 
   pub on-spot : (h d : HalfEdgeId) → Has f h → on f h ≡ Some d → spot f d ≡ spot f h
   on-spot h d l o = ap (f .point) (sym (on-twins h d l o .to) ∙ ap (f .corner) (next-previous h))
@@ -86,25 +76,12 @@ module _ (f : Surface) (sound : Sound f) where
   pub on-ray : (h d : HalfEdgeId) → Has f h → on f h ≡ Some d → last-ray h ≡ first-ray d
   on-ray h d l o = ap₂ step (sym (on-spot h d l o)) (ap (f .point) (on-twins h d l o .from))
 
-  pub later-has : {s h : HalfEdgeId} → Has f s → Later f s h → Has f h
-  later-has {s} {h} l (one o) = on-has s h l o
-  later-has {s} {h} l (more {g = g} k o) = on-has g h (later-has l k) o
+  later-has : {s h : HalfEdgeId} → Has f s → Later f s h → Has f h
+  later-has l k = later-within f (sound .twins) l k
 
   pub later-spot : {s h : HalfEdgeId} → Has f s → Later f s h → spot f h ≡ spot f s
   later-spot {s} {h} l (one o) = on-spot s h l o
   later-spot {s} {h} l (more {g = g} k o) = on-spot g h (later-has l k) o ∙ later-spot l k
-
-  -- ---- the first corner
-  pub first-of : {h : HalfEdgeId} → Has f h → Opens f h → First f h
-  first-of {h} l (edge t) = record { start = h; has = l; rim = t; way = inl refl }
-  first-of {h} l (across {d = d} t o) =
-      let w = sound .twins h l d t in
-      let r = first-of (next-has d (w .within)) o in
-      let b : on f (next d) ≡ Some h = ap (f .twin) (previous-next d) ∙ w .back in
-      record { start = r .start; has = r .has; rim = r .rim; way = inr (elim (r .way) [ inl e ↦ subst (λ x. Later f x h) (sym e) (one b) | inr k ↦ more k b ]) }
-    where
-      next-has : (d : HalfEdgeId) → Has f d → Has f (next d)
-      next-has d l = omega arith
 
   -- ---- no first ray comes round again
   clear : (s h : HalfEdgeId) → Has f s → f .twin s ≡ None → Later f s h → ¬ (In (first-ray s) (first-ray h) (last-ray h))
@@ -136,18 +113,18 @@ module _ (f : Surface) (sound : Sound f) where
 
   pub apart : {s h : HalfEdgeId} → Has f s → Later f s h → ¬ (In (first-ray s) (first-ray h) (last-ray h))
   apart {s} {h} l k =
-      let r = first-of l (sound .fans s l) in
-      elim (r .way) [
-        | inl e ↦ clear s h l (subst (λ x. f .twin x ≡ None) e (r .rim)) k
-        | inr j ↦ after-first (r .start) (r .has) (r .rim) j k
+      let r = opens-fan f (sound .twins) l (sound .fans s l) in
+      elim (r .2) [
+        | inl e ↦ clear s h l (subst (λ x. f .twin x ≡ None) (sym e) (r .1 .rim)) k
+        | inr j ↦ after-first (r .0) (r .1 .has) (r .1 .rim) j k
       ]
 
   pub apart-before : {h s : HalfEdgeId} → Has f h → Later f h s → ¬ (In (last-ray s) (first-ray h) (last-ray h))
   apart-before {h} {s} l (one o) i =
-      order.next-out quadratic-ring (first-ray h) (last-ray h) (last-ray s) (pos-eq quadratic-ring (ap (λ v. v ⋀ last-ray s) (sym (on-ray h s l o))) (ray-turn s (on-has h s l o))) i
+      order.next-out quadratic-ring (first-ray h) (last-ray h) (last-ray s) (pos-eq quadratic-ring (ap (λ v. v ⋀ last-ray s) (sym (on-ray h s l o))) (ray-turn s (on-within f (sound .twins) h s l o))) i
   apart-before {h} {s} l (more {g = g} k o) i =
       let m = later-has l k in
-      let j = order.steps-back quadratic-ring (first-ray h) (last-ray h) (first-ray s) (last-ray s) (ray-turn h l) (ray-turn s (on-has g s m o)) (apart l (more k o)) i in
+      let j = order.steps-back quadratic-ring (first-ray h) (last-ray h) (first-ray s) (last-ray s) (ray-turn h l) (ray-turn s (on-within f (sound .twins) g s m o)) (apart l (more k o)) i in
       apart-before l k (subst (λ v. In v (first-ray h) (last-ray h)) (sym (on-ray g s m o)) j)
 
   -- the same, said by turns

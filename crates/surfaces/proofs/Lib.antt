@@ -8,8 +8,6 @@ pub mod SheetFans
 pub mod SheetLawful
 pub mod SheetEnds
 pub mod FanRays
-pub mod Pigeonhole
-pub mod FanEnds
 pub mod MirroredLawful
 pub mod BarredLawful
 pub mod SheetAnswers

@@ -13,14 +13,15 @@ use Rattle.base.specs.Ids.{half-edge, side, next, previous, mirror-side, mirror
 use Rattle.algebra.specs.Number.{Number, number, minus}
 use Rattle.geometry.specs.Plane.{Point, point, turn, mirror}
 use Rattle.geometry.specs.declared.Turn.{Turn}
-use Rattle.mesh.specs.Surface.{Surface, Has, Ended, spot, triangle-turn, Twins, on, Later, one, more, Opens, edge, across, NotRight, Covers}
+use Rattle.mesh.specs.Surface.{Surface, Has, Ended, spot, triangle-turn, Twins, on, Later, one, more, Opens, edge, across, Ends, edge-ahead, ahead, NotRight}
+use Rattle.mesh.proofs.FanSteps.{later-within}
+use Rattle.mesh.proofs.FansEnding.{fans-end}
 use Rattle.mesh.specs.Sound.{Sound, TurnsLeft, Paired, FallsShort}
 use Rattle.surfaces.specs.Lawful.{Lawful, Alike}
 use Rattle.surfaces.specs.Layers.{mirrored, renamed}
 use Rattle.surfaces.proofs.Codes.{side-twice, corner-twice, corner-from-side, side-from-corner, corner-of-next, corner-of-previous, side-of-previous, side-below, corner-below, side-past, corner-past}
 use Rattle.surfaces.proofs.Turns.{turn-mirrored}
 use Rattle.surfaces.proofs.FanRays.{later-cons, covers-not-before}
-use Rattle.surfaces.proofs.FanEnds.{Ends, stop, go, ends}
 
 unrenamed : (o : Option HalfEdgeId) (d : HalfEdgeId) → renamed o ≡ Some d → o ≡ Some (mirror-side d)
 unrenamed None d e = absurd (let z : _≡_ {A = ℕ} 0 1 = cc in omega arith)
@@ -59,8 +60,8 @@ module _ (f : Surface) (sound : Sound f) where
 
   -- going back here is going on there
   opened : {x : HalfEdgeId} → Ends f x → (h : HalfEdgeId) → x ≡ mirror-corner h → Opens m h
-  opened (stop t) h e = edge (ap renamed (ap (f .twin) (side-from-corner h ∙ ap previous (sym e)) ∙ t))
-  opened (go {d = d} t r) h e =
+  opened (edge-ahead t) h e = edge (ap renamed (ap (f .twin) (side-from-corner h ∙ ap previous (sym e)) ∙ t))
+  opened (ahead {d = d} t r) h e =
       across (shown h (mirror-side d) (ap (f .twin) (side-from-corner h ∙ ap previous (sym e)) ∙ t ∙ ap Some (sym (side-twice d))))
       (opened r (next (mirror-side d)) (sym (corner-of-next (mirror-side d) ∙ side-twice d)))
 
@@ -70,15 +71,8 @@ module _ (f : Surface) (sound : Sound f) where
       let u : f .twin (mirror-corner x) ≡ Some (mirror-side y) = ap (f .twin) (sym (side-of-previous x)) ∙ t in
       ap (f .twin) (sym (side-from-corner y)) ∙ sound .twins (mirror-corner x) (corner-below (f .F) x l) (mirror-side y) u .back
 
-  has-on : (x y : HalfEdgeId) → Has m x → on m x ≡ Some y → Has m y
-  has-on x y l o = pairs (previous x) (previous-has x l) y o .within
-    where
-      previous-has : (x : HalfEdgeId) → Has m x → Has m (previous x)
-      previous-has x l = omega arith
-
   has-later : {s h : HalfEdgeId} → Has m s → Later m s h → Has m h
-  has-later {s} {h} l (one o) = has-on s h l o
-  has-later {s} {h} l (more {g = x} k o) = has-on x h (has-later l k) o
+  has-later l k = later-within m pairs l k
 
   earlier : {s h : HalfEdgeId} → Has m s → Later m s h → Later f (mirror-corner h) (mirror-corner s)
   earlier {s} {h} l (one o) = one (on-back s h l o)
@@ -102,7 +96,7 @@ module _ (f : Surface) (sound : Sound f) where
     corners = λ h l. sound .corners (mirror-corner h) (corner-below (f .F) h l);
     turns = turns-left;
     twins = pairs;
-    fans = λ h l. opened (ends f sound (mirror-corner h) (corner-below (f .F) h l)) h refl;
+    fans = λ h l. opened (fans-end f sound (mirror-corner h) (corner-below (f .F) h l)) h refl;
     spans = λ h _. short h;
   }
 
