@@ -30,7 +30,7 @@ impl<M: Mesh> Barred<M> {
     // No bar stands yet.
     pub fn new(below: M) -> Barred<M>
         ensures below { λ r. ⌜ r .below ≡ below ⌝ }
-        ensures none { λ r. ⌜ take (r .count) (r .codes) ≡ [] ⌝ }
+        ensures none { λ r. ⌜ r .count ≡ 0 ⌝ }
     {
         Barred {
             below,

@@ -8,8 +8,11 @@ use base::ids::VertexId;
 use geometry::kinds::PointKind;
 
 pub mod bars;
+pub mod integers;
 pub mod laws;
+mod lists;
 pub mod mirrors;
+pub mod quadratics;
 pub mod samples;
 pub mod sheets;
 

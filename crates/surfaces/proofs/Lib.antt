@@ -13,3 +13,5 @@ pub mod BarredLawful
 pub mod SheetAnswers
 pub mod LayerTwins
 pub mod BarredLists
+pub mod SoundStable
+pub mod ListedLawful
