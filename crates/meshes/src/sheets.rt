@@ -188,7 +188,13 @@ pub impl Mesh for PerforatedSheet as SheetMesh {
         let Square { column, row } = self.cell(h.0 / 6);
         match h.0 % 6 {
             0 if row == 0 => None,
-            0 => self.half_edge(Square { column, row: row - 1 }, 4),
+            0 => self.half_edge(
+                Square {
+                    column,
+                    row: row - 1,
+                },
+                4,
+            ),
             1 => self.half_edge(
                 Square {
                     column: column + 1,

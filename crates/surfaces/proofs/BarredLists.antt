@@ -53,6 +53,7 @@ bars-both-sides f w bars h d t = (hidden, shown)
   where
     back : f .twin d ≡ Some h
     back = twin-twins f w h d t .back
+
     hidden : (among bars h || among bars d) ≡ true → (barred bars f .twin h ≡ None) × (barred bars f .twin d ≡ None)
     hidden e =
         (ap (unless-barred bars h) t ∙ ap (λ b. cond b None (Some d)) e, ap (unless-barred bars d) back ∙ ap (λ b. cond b None (Some h)) (turned (among bars h) (among bars d) e))
@@ -62,6 +63,7 @@ bars-both-sides f w bars h d t = (hidden, shown)
         turned true false e = e
         turned false true e = e
         turned false false e = e
+
     shown : (among bars h || among bars d) ≡ false → barred bars f .twin h ≡ Some d
     shown e = ap (unless-barred bars h) t ∙ ap (λ b. cond b None (Some d)) e
 

@@ -96,8 +96,10 @@ module _ (a b g : ℕ) where
     where
       within : (n m : ℕ) → n / 2 < m → 3 * n + k < 6 * m
       within n m l = omega arith
+
       cell-of : (n : ℕ) → (3 * n + k) / 6 ≡ n / 2
       cell-of n = omega arith
+
       edge-of : (n : ℕ) → (3 * n + k) % 6 ≡ 3 * (n % 2) + k
       edge-of n = omega arith
 

@@ -150,8 +150,8 @@ module _ (a b : ℕ) (q : Cell) (k : Kept a b q) (e : Edge) where
       let t : ltb (code a q e .0) (6 * cells a b) ≡ true = below-test (code a q e .0) (6 * cells a b) l in
       ap (λ t. cond t (at (numbered a (code a q e .0 / 6)) (edge (code a q e .0 % 6))) x) t
       ∙ ap₂ at
-        (ap (numbered a) (code-cell (cell-number a q) (edge-number e) (edge-small e)) ∙ numbered-number a b q k)
-        (ap edge (code-edge (cell-number a q) (edge-number e) (edge-small e)) ∙ edge-back e)
+      (ap (numbered a) (code-cell (cell-number a q) (edge-number e) (edge-small e)) ∙ numbered-number a b q k)
+      (ap edge (code-edge (cell-number a q) (edge-number e) (edge-small e)) ∙ edge-back e)
 
 code-of : (a : ℕ) (h : HalfEdgeId) → code a (numbered a (h .0 / 6)) (edge (h .0 % 6)) ≡ h
 code-of a h =

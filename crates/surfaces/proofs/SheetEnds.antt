@@ -74,6 +74,7 @@ module _ (a b g : ℕ) where
       fit t =
           let w = each a b (λ h. (d : HalfEdgeId) → f .twin h ≡ Some d → (f .corner h ≡ f .corner (next d)) × (f .corner (next h) ≡ f .corner d)) (λ q k e d t. let w = twins-at a b g q k e d t in (w .from, w .to)) h (six a b g h i) d t in
           w
+
       made : (f .corner h ≡ f .corner (next d)) × (f .corner (next h) ≡ f .corner d) → f .twin h ≡ Some d
       made m =
           each a b (λ h. f .corner h ≡ f .corner (next d) → f .corner (next h) ≡ f .corner d → f .twin h ≡ Some d)

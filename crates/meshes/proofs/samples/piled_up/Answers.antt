@@ -41,6 +41,7 @@ returns-in-Ok c =
     let eg : m .below .below .pitch ≡ 10 = ap (λ s. s .pitch) below ∙ p .2 in
     let none : take (m .count) (m .codes) ≡ [] = ap (λ n. take n (m .codes)) (c .new-mesh .ensures .none) in
     let more = accepted (λ _. c .bar .last .self ≡ m) (c .bar .result) (c .bar .ensures .verdict ∙ lets ea eb eg none (c .new-mesh .ensures .none)) (c .bar .ensures .effect) in
-    let kept = c .bar .ensures .below in
-    (c .twin-before .ensures ∙ shows ea eb eg none,
-      c .twin .ensures ∙ hides (ap (λ x. x .below .columns) kept ∙ ea) (ap (λ x. x .below .rows) kept ∙ eb) (ap (λ x. x .below .pitch) kept ∙ eg) (more ∙ ap (λ xs. xs ++ half-edge 9 ∷ []) none))
+    let kept = c .bar .ensures .below in (
+      c .twin-before .ensures ∙ shows ea eb eg none,
+      c .twin .ensures ∙ hides (ap (λ x. x .below .columns) kept ∙ ea) (ap (λ x. x .below .rows) kept ∙ eb) (ap (λ x. x .below .pitch) kept ∙ eg) (more ∙ ap (λ xs. xs ++ half-edge 9 ∷ []) none),
+    )
