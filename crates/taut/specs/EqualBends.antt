@@ -37,7 +37,12 @@ Strung s ps e bs = Sleeve quadratics s ps e × TautString quadratics s ps e bs
 
 pub record EqualBends : Type 0 where
   -- after some common portals, or in the start's triangle
-  pub fork : (s e : Vec Number) (bs : List (Bend Number)) (p : Portal Number) (ps : List (Portal Number)) (q₁ q₂ : Portal Number) (ps₁ ps₂ : List (Portal Number)) → Fork quadratics (last-portal p ps) q₁ q₂ → OneFan quadratics e q₁ ps₁ q₂ ps₂ → Strung s (p ∷ (ps ++ (q₁ ∷ ps₁))) e bs → Strung s (p ∷ (ps ++ (q₂ ∷ ps₂))) e bs → ⊥
-  pub fork-at-start : (s e : Vec Number) (bs : List (Bend Number)) (q₁ q₂ : Portal Number) (ps₁ ps₂ : List (Portal Number)) → q₁ .right ≡ q₂ .left → Positive (veer quadratics Left (_⟶_ quadratics (q₁ .right .point) (q₁ .left .point)) (_⟶_ quadratics (q₁ .right .point) (q₂ .right .point))) → OneFan quadratics e q₁ ps₁ q₂ ps₂ → Strung s (q₁ ∷ ps₁) e bs → Strung s (q₂ ∷ ps₂) e bs → ⊥
-  pub stop : (s e : Vec Number) (bs : List (Bend Number)) (p : Portal Number) (ps : List (Portal Number)) (q : Portal Number) (qs : List (Portal Number)) → Behind quadratics q e → Strung s (p ∷ ps) e bs → Strung s (p ∷ (ps ++ (q ∷ qs))) e bs → ⊥
+  pub fork : (s e : Vec Number) (bs : List (Bend Number)) (p : Portal Number) (ps : List (Portal Number)) (q₁ q₂ : Portal Number) (ps₁ ps₂ : List (Portal Number))
+      → Fork quadratics (last-portal p ps) q₁ q₂ → OneFan quadratics e q₁ ps₁ q₂ ps₂ → Strung s (p ∷ (ps ++ (q₁ ∷ ps₁))) e bs
+      → Strung s (p ∷ (ps ++ (q₂ ∷ ps₂))) e bs → ⊥
+  pub fork-at-start : (s e : Vec Number) (bs : List (Bend Number)) (q₁ q₂ : Portal Number) (ps₁ ps₂ : List (Portal Number)) → q₁ .right ≡ q₂ .left
+      → Positive (veer quadratics Left (_⟶_ quadratics (q₁ .right .point) (q₁ .left .point)) (_⟶_ quadratics (q₁ .right .point) (q₂ .right .point)))
+      → OneFan quadratics e q₁ ps₁ q₂ ps₂ → Strung s (q₁ ∷ ps₁) e bs → Strung s (q₂ ∷ ps₂) e bs → ⊥
+  pub stop : (s e : Vec Number) (bs : List (Bend Number)) (p : Portal Number) (ps : List (Portal Number)) (q : Portal Number) (qs : List (Portal Number))
+      → Behind quadratics q e → Strung s (p ∷ ps) e bs → Strung s (p ∷ (ps ++ (q ∷ qs))) e bs → ⊥
   pub stop-at-start : (s e : Vec Number) (q : Portal Number) (qs : List (Portal Number)) → Behind quadratics q e → Strung s (q ∷ qs) e [] → ⊥
