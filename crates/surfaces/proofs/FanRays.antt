@@ -1,25 +1,22 @@
 -- Rays of the fans of a sound surface. No ray lies in the sector of a later corner of its fan (`apart`),
 -- and the last ray of a corner lies in the sector of no earlier one (`apart-before`).
-use mathlib.Core.Path.{_≡_, refl, sym, ap, ap₂, subst, _∙_}
+use mathlib.Core.Path.{_≡_, sym, ap, ap₂, subst, _∙_}
 use mathlib.Core.Logic.{_⊎_, inl, inr}
-use Prim.Native.Nat.{ℕ, _+_, _*_, _/_, _%_, _<_, _≤_}
+use Prim.Native.Nat.{ℕ, _*_, _/_, _%_, _<_}
 use native.Mathlib.Omega.{arith}
 use Rattle.std.proofs.shelf.Ways.{eqb-tells}
-use Rattle.std.specs.declared.option.Option.{Option}
 use Rattle.std.specs.declared.option.Option.the-variants.{Some, None}
 use Rattle.base.specs.declared.ids.TriangleId.{TriangleId}
 use Rattle.base.specs.declared.ids.HalfEdgeId.{HalfEdgeId}
 use Rattle.base.specs.Ids.{half-edge, side, triangle-of, next, previous}
-use Rattle.algebra.specs.Arithmetic.{Nn}
-use Rattle.algebra.specs.Number.{Number, Positive, quadratics}
+use Rattle.algebra.specs.Number.{Number, Positive}
 use Rattle.algebra.specs.Plane.{Vec}
 use Rattle.algebra.proofs.OrderedRing.{pos-eq, nn-eq}
 use Rattle.algebra.proofs.Quadratics.{quadratic-ring}
-use Rattle.geometry.specs.Plane.{Point, step, turn}
+use Rattle.geometry.specs.Plane.{step, turn}
 use Rattle.geometry.specs.declared.Turn.the-variants.{Left}
 use Rattle.mesh.specs.Surface.{Surface, Has, spot, Twins, on, Later, one, more, Covers, NotRight}
 use Rattle.mesh.specs.Sound.{Sound}
-use Rattle.surfaces.specs.Lawful.{Lawful}
 use Rattle.mesh.proofs.FanSteps.{next-previous, previous-within, on-within, later-within, opens-fan}
 use Rattle.surfaces.specs.Laws.{RaysApart}
 use Rattle.surfaces.proofs.Turns.{_⋀_, left-pos, not-right, nn-not-right, turn-rolled}
@@ -58,8 +55,10 @@ module _ (f : Surface) (sound : Sound f) where
     where
       n : TriangleId
       n = triangle-of h
+
       below : (m k : ℕ) → m < 3 * k → m / 3 < k
       below m k l = omega arith
+
       t : turn (spot f (side n 0)) (spot f (side n 1)) (spot f (side n 2)) ≡ Left
       t = sound .turns n (below (h .0) (f .F) l)
 
@@ -87,9 +86,10 @@ module _ (f : Surface) (sound : Sound f) where
   clear : (s h : HalfEdgeId) → Has f s → f .twin s ≡ None → Later f s h → ¬ (In (first-ray s) (first-ray h) (last-ray h))
   clear s h l t k i =
       let e : step (spot f s) (spot f (next s)) ≡ step (spot f h) (spot f (next s)) = ap (λ p. step p (spot f (next s))) (sym (later-spot l k)) in
-      sound .spans h (later-has l k) s l t k
-      (nn-not-right (spot f h) (spot f (next h)) (spot f (next s)) (nn-eq quadratic-ring (ap (λ v. first-ray h ⋀ v) e) (i .0)),
-        nn-not-right (spot f h) (spot f (next s)) (spot f (previous h)) (nn-eq quadratic-ring (ap (λ v. v ⋀ last-ray h) e) (i .1)))
+      sound .spans h (later-has l k) s l t k (
+        nn-not-right (spot f h) (spot f (next h)) (spot f (next s)) (nn-eq quadratic-ring (ap (λ v. first-ray h ⋀ v) e) (i .0)),
+        nn-not-right (spot f h) (spot f (next s)) (spot f (previous h)) (nn-eq quadratic-ring (ap (λ v. v ⋀ last-ray h) e) (i .1)),
+      )
 
   module _ (s₀ : HalfEdgeId) (has : Has f s₀) (rim : f .twin s₀ ≡ None) where
     phase : {s : HalfEdgeId} → Later f s₀ s → Phase quadratic-ring (first-ray s₀) (first-ray s)
@@ -131,16 +131,18 @@ module _ (f : Surface) (sound : Sound f) where
   pub covers-not : (s h : HalfEdgeId) → Has f s → Later f s h → Covers f s h → ⊥
   covers-not s h l k v =
       let e : step (spot f h) (spot f (next s)) ≡ step (spot f s) (spot f (next s)) = ap (λ p. step p (spot f (next s))) (later-spot l k) in
-      apart l k
-      (nn-eq quadratic-ring (ap (λ v. first-ray h ⋀ v) e) (not-right (spot f h) (spot f (next h)) (spot f (next s)) (v .0)),
-        nn-eq quadratic-ring (ap (λ v. v ⋀ last-ray h) e) (not-right (spot f h) (spot f (next s)) (spot f (previous h)) (v .1)))
+      apart l k (
+        nn-eq quadratic-ring (ap (λ v. first-ray h ⋀ v) e) (not-right (spot f h) (spot f (next h)) (spot f (next s)) (v .0)),
+        nn-eq quadratic-ring (ap (λ v. v ⋀ last-ray h) e) (not-right (spot f h) (spot f (next s)) (spot f (previous h)) (v .1)),
+      )
 
   pub covers-not-before : (h s : HalfEdgeId) → Has f h → Later f h s → NotRight (turn (spot f h) (spot f (next h)) (spot f (previous s))) × NotRight (turn (spot f h) (spot f (previous s)) (spot f (previous h))) → ⊥
   covers-not-before h s l k v =
       let e : step (spot f h) (spot f (previous s)) ≡ last-ray s = ap (λ p. step p (spot f (previous s))) (sym (later-spot l k)) in
-      apart-before l k
-      (nn-eq quadratic-ring (ap (λ v. first-ray h ⋀ v) e) (not-right (spot f h) (spot f (next h)) (spot f (previous s)) (v .0)),
-        nn-eq quadratic-ring (ap (λ v. v ⋀ last-ray h) e) (not-right (spot f h) (spot f (previous s)) (spot f (previous h)) (v .1)))
+      apart-before l k (
+        nn-eq quadratic-ring (ap (λ v. first-ray h ⋀ v) e) (not-right (spot f h) (spot f (next h)) (spot f (previous s)) (v .0)),
+        nn-eq quadratic-ring (ap (λ v. v ⋀ last-ray h) e) (not-right (spot f h) (spot f (previous s)) (spot f (previous h)) (v .1)),
+      )
 
 pub rays-apart : RaysApart
 rays-apart f w s h l k = (covers-not f (w .sound) s h l k, covers-not-before f (w .sound) s h l k)

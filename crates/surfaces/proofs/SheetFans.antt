@@ -1,10 +1,9 @@
 -- Fans of the sheet. Of the four squares round a vertex the one with odd column and odd row is never kept. A corner's place in its fan is how many
 -- rays it is on from that square: at most four. So going back from a corner ends, and no first ray comes round again.
 use mathlib.Core.Path.{_≡_, refl, sym, ap, ap₂, subst, _∙_}
-use mathlib.Core.Bool.{Bool, true, false, cond}
-use Prim.Native.Nat.{ℕ, zero, suc, _+_, _-_, _*_, _/_, _%_, _<_, _≤_}
+use mathlib.Core.Bool.{cond}
+use Prim.Native.Nat.{ℕ, zero, suc, _+_, _-_, _%_, _<_, _≤_}
 use native.Mathlib.Omega.{arith}
-use lib.Dec.{eqb}
 use Rattle.std.proofs.shelf.Ways.{tells}
 use Rattle.std.specs.declared.option.Option.{Option}
 use Rattle.std.specs.declared.option.Option.the-variants.{Some, None}
@@ -15,8 +14,8 @@ use Rattle.algebra.specs.Number.{quadratics}
 use Rattle.algebra.proofs.OrderedRing.{nn-eq}
 use Rattle.algebra.proofs.Quadratics.{quadratic-ring}
 use Rattle.geometry.specs.Plane.{step}
-use Rattle.mesh.specs.Surface.{Surface, Has, spot, on, Later, one, more, Opens, edge, across, Covers}
-use Rattle.surfaces.specs.Sheet.{Cell, odd, cells, Edge, bottom, right, down, up, top, left, code, opposite, corner-column, corner-row, grid-point, sheet}
+use Rattle.mesh.specs.Surface.{Surface, spot, on, Later, one, more, Opens, edge, across, Covers}
+use Rattle.surfaces.specs.Sheet.{Cell, odd, Edge, bottom, right, down, up, top, left, code, opposite, corner-column, corner-row, grid-point, sheet}
 use Rattle.surfaces.proofs.Turns.{_⋀_, not-right}
 use Rattle.surfaces.proofs.SheetCells.{Kept}
 use Rattle.surfaces.proofs.SheetTwins.{after, before, next-code, previous-code, Crossed, crossed, shares}
@@ -148,8 +147,10 @@ module _ (a b g : ℕ) where
     where
       x : Edge
       x = rays-on n e
+
       c : Crossed a b (r .far) (before x) h
       c = crossed a b g (r .far) (r .keeps) (before x) h (ap (f .twin) (sym (ap previous (r .is) ∙ previous-code a (r .far) x)) ∙ o)
+
       m : Meets (r .far) x (c .far) (onward x)
       m = subst (λ y. Meets (r .far) x (c .far) y) (on-is x) (subst (λ y. Meets (r .far) y (c .far) (opposite (before x))) (back-is x)
           (record { columns = shares (r .far) (before x) (c .far) (c .there) .to-column; rows = shares (r .far) (before x) (c .far) (c .there) .to-row }))
@@ -166,9 +167,10 @@ module _ (a b g : ℕ) where
       let d = code a (r .far) x in
       let w : Covers f s d = subst (Covers f s) (r .is) v in
       let same : spot f d ≡ spot f s = spot-at a b g (r .far) (r .keeps) x ∙ sym (ap₂ (grid-point g) (r .meets .columns) (r .meets .rows)) ∙ sym (spot-at a b g q k e) in
-      let first = ap (λ z. step z (spot f (next s))) same ∙ step-next a b g q k e in
-      (nn-eq quadratic-ring (ap₂ _⋀_ (step-next a b g (r .far) (r .keeps) x) first) (not-right (spot f d) (spot f (next d)) (spot f (next s)) (w .0)),
-        nn-eq quadratic-ring (ap₂ _⋀_ first (step-previous a b g (r .far) (r .keeps) x)) (not-right (spot f d) (spot f (next s)) (spot f (previous d)) (w .1)))
+      let first = ap (λ z. step z (spot f (next s))) same ∙ step-next a b g q k e in (
+        nn-eq quadratic-ring (ap₂ _⋀_ (step-next a b g (r .far) (r .keeps) x) first) (not-right (spot f d) (spot f (next d)) (spot f (next s)) (w .0)),
+        nn-eq quadratic-ring (ap₂ _⋀_ first (step-previous a b g (r .far) (r .keeps) x)) (not-right (spot f d) (spot f (next s)) (spot f (previous d)) (w .1)),
+      )
 
   clear-of : 0 < g → (n : ℕ) (e : Edge) → n < 4 → Nn quadratics (along g (rays-on (suc n) e) ⋀ along g e) × Nn quadratics (along g e ⋀ along g (onward (rays-on (suc n) e))) → ⊥
   clear-of wide zero e h v = v .0 .not-neg (one-behind g wide e)

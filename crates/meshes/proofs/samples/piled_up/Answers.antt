@@ -1,10 +1,9 @@
-use mathlib.Core.Path.{_≡_, sym, ap, _∙_}
-use mathlib.Core.List.{List, [], _∷_, _++_}
+use mathlib.Core.Path.{_≡_, ap, _∙_}
+use mathlib.Core.List.{List, _∷_, _++_, []}
 use Prim.Native.Nat.{ℕ}
 use native.Mathlib.Omega.{arith}
 use lib.ListN.{take}
 use Rattle.std.specs.Results.{Cases}
-use Rattle.std.specs.declared.option.Option.{Option}
 use Rattle.std.specs.declared.option.Option.the-variants.{Some, None}
 use Rattle.std.specs.declared.result.Result.{Result}
 use Rattle.std.specs.declared.result.Result.the-variants.{Ok, Err}
@@ -41,6 +40,7 @@ returns-in-Ok c =
     let eg : m .below .below .pitch ≡ 10 = ap (λ s. s .pitch) below ∙ p .2 in
     let none : take (m .count) (m .codes) ≡ [] = ap (λ n. take n (m .codes)) (c .new-mesh .ensures .none) in
     let more = accepted (λ _. c .bar .last .self ≡ m) (c .bar .result) (c .bar .ensures .verdict ∙ lets ea eb eg none (c .new-mesh .ensures .none)) (c .bar .ensures .effect) in
-    let kept = c .bar .ensures .below in
-    (c .twin-before .ensures ∙ shows ea eb eg none,
-      c .twin .ensures ∙ hides (ap (λ x. x .below .columns) kept ∙ ea) (ap (λ x. x .below .rows) kept ∙ eb) (ap (λ x. x .below .pitch) kept ∙ eg) (more ∙ ap (λ xs. xs ++ half-edge 9 ∷ []) none))
+    let kept = c .bar .ensures .below in (
+      c .twin-before .ensures ∙ shows ea eb eg none,
+      c .twin .ensures ∙ hides (ap (λ x. x .below .columns) kept ∙ ea) (ap (λ x. x .below .rows) kept ∙ eb) (ap (λ x. x .below .pitch) kept ∙ eg) (more ∙ ap (λ xs. xs ++ half-edge 9 ∷ []) none),
+    )
