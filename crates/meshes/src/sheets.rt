@@ -25,6 +25,19 @@ const NARROW: u16 = 3;
 
 const WIDE: u16 = 100;
 
+// The half-edges of a cell: three of its lower triangle, then three of its upper one. Down and up are the two halves of the diagonal.
+const BOTTOM: u16 = 0;
+
+const RIGHT: u16 = 1;
+
+const DOWN: u16 = 2;
+
+const UP: u16 = 3;
+
+const TOP: u16 = 4;
+
+const LEFT: u16 = 5;
+
 #[derive(Clone, Copy)]
 pub struct PerforatedSheet {
     columns: u16,
@@ -102,13 +115,12 @@ impl PerforatedSheet {
     }
 
     // A half-edge of a cell, if the cell is kept.
-    fn half_edge(&self, square: Square, edge: u16) -> Option<HalfEdgeId>
-        requires column { ⌜ square .column ≤ 51 ⌝ }
-        requires row { ⌜ square .row ≤ 51 ⌝ }
+    fn half_edge(&self, column: u16, row: u16, edge: u16) -> Option<HalfEdgeId>
+        requires column { ⌜ column ≤ 51 ⌝ }
+        requires row { ⌜ row ≤ 51 ⌝ }
         requires edge { ⌜ edge < 6 ⌝ }
-        ensures { λ r. ⌜ r ≡ cond (kept (now (self .entry) .columns) (now (self .entry) .rows) (cell (square .column) (square .row))) (Some (halfEdge (6 * cellNumber (now (self .entry) .columns) (cell (square .column) (square .row)) + edge))) None ⌝ }
+        ensures { λ r. ⌜ r ≡ cond (kept (now (self .entry) .columns) (now (self .entry) .rows) (cell column row)) (Some (halfEdge (6 * cellNumber (now (self .entry) .columns) (cell column row) + edge))) None ⌝ }
     {
-        let Square { column, row } = square;
         if column > 2 * self.columns || row > 2 * self.rows || column % 2 == 1 && row % 2 == 1 {
             return None;
         }
@@ -187,6 +199,7 @@ pub impl Mesh for PerforatedSheet as SheetMesh {
         }
         let Square { column, row } = self.cell(h.0 / 6);
         match h.0 % 6 {
+<<<<<<< HEAD
             0 if row == 0 => None,
             0 => self.half_edge(
                 Square {
@@ -211,14 +224,16 @@ pub impl Mesh for PerforatedSheet as SheetMesh {
                 },
                 0,
             ),
+=======
+            BOTTOM if row == 0 => None,
+            BOTTOM => self.half_edge(column, row - 1, TOP),
+            RIGHT => self.half_edge(column + 1, row, LEFT),
+            DOWN => Some(HalfEdgeId(h.0 + 1)),
+            UP => Some(HalfEdgeId(h.0 - 1)),
+            TOP => self.half_edge(column, row + 1, BOTTOM),
+>>>>>>> 4300f57d9a43aadb317ea7e4567df3283e861cb8
             _ if column == 0 => None,
-            _ => self.half_edge(
-                Square {
-                    column: column - 1,
-                    row,
-                },
-                1,
-            ),
+            _ => self.half_edge(column - 1, row, RIGHT),
         }
     }
 }

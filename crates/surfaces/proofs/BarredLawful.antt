@@ -1,5 +1,5 @@
--- A surface with barred portals is sound if the surface below is: a bar cuts a fan into parts, and a part of a fan of less than a full turn is one.
-use mathlib.Core.Path.{_≡_, refl, sym, ap, ap₂, subst, _∙_}
+-- A surface with barred portals is lawful if the surface below is: a bar cuts a fan into parts, and a part of a fan of less than a full turn is one.
+use mathlib.Core.Path.{_≡_, refl, ap, subst, _∙_}
 use mathlib.Core.List.{List}
 use mathlib.Core.Bool.{Bool, true, false, cond, _||_}
 use Prim.Native.Nat.{ℕ}

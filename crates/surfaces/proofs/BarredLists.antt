@@ -1,14 +1,13 @@
 -- Lists of bars: one more, and one that is found. A barred portal is boundary from both sides, every other twin stays, and one bar more is a layer more.
-use mathlib.Core.Path.{_≡_, refl, sym, ap, ap₂, subst, _∙_}
-use mathlib.Core.List.{List, [], _∷_, _++_}
+use mathlib.Core.Path.{_≡_, refl, sym, ap, ap₂, _∙_}
+use mathlib.Core.List.{List, _∷_, _++_, []}
 use mathlib.Core.Bool.{Bool, true, false, cond, _||_, or-true}
 use Prim.Native.Nat.{ℕ, zero, suc, _+_, _<_, _≤_}
 use native.Mathlib.Omega.{arith}
-use native.Mathlib.Numerals.{add-one}
 use lib.Dec.{leb, eqb}
-use lib.ListN.{length, getD, take, drop}
-use Rattle.std.proofs.shelf.Lists.{take-more, take-append-drop}
-use Rattle.std.proofs.shelf.Tests.{or-left, or-right, or-from}
+use lib.ListN.{length, getD, take}
+use Rattle.std.proofs.shelf.Lists.{take-more}
+use Rattle.std.proofs.shelf.Tests.{or-left, or-right}
 use Rattle.std.proofs.shelf.Ways.{tells}
 use Rattle.std.specs.declared.option.Option.{Option}
 use Rattle.std.specs.declared.option.Option.the-variants.{Some, None}

@@ -1,9 +1,9 @@
 -- Half-edge codes under a mirror: each renaming undoes itself and stays in the triangle, and the two go together with next and previous.
-use mathlib.Core.Path.{_≡_, refl, sym, ap, _∙_}
-use Prim.Native.Nat.{ℕ, _+_, _-_, _*_, _/_, _%_, _<_, _≤_}
+use mathlib.Core.Path.{_≡_, ap}
+use Prim.Native.Nat.{ℕ, _*_, _<_, _≤_}
 use native.Mathlib.Omega.{arith}
 use Rattle.base.specs.declared.ids.HalfEdgeId.{HalfEdgeId}
-use Rattle.base.specs.Ids.{half-edge, side, triangle-of, index, next, previous, mirror-side, mirror-corner}
+use Rattle.base.specs.Ids.{half-edge, next, previous, mirror-side, mirror-corner}
 
 pub side-twice : (h : HalfEdgeId) → mirror-side (mirror-side h) ≡ h
 side-twice h = ap half-edge (omega arith)

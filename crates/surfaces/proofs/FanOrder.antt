@@ -1,6 +1,8 @@
--- Rays of an open fan. If the first ray of a fan lies in no later sector, then no ray lies in a later sector, and none in an earlier sector but the one that it ends (`apart`, `apart-before`).
-use mathlib.Core.Path.{_≡_, refl, sym, ap, subst, _∙_}
-use mathlib.Core.Logic.{_⊎_, inl, inr}
+-- Rays that turn left one after the other, counted from a first ray h that lies in none of their sectors, over any ordered ring.
+-- A ray that comes before another comes before all that follow (`before-on`) and lies in none of their sectors (`before-out`);
+-- and if a ray lies in an earlier sector, so does the ray before it (`steps-back`).
+use mathlib.Core.Path.{_≡_, refl, sym, ap, _∙_}
+use mathlib.Core.Logic.{inl, inr}
 use Rattle.algebra.specs.Arithmetic.{Ops, OrderLaws, Arithmetic, Nn}
 use Rattle.algebra.specs.Plane.{Vec, _⊗_}
 use Rattle.algebra.proofs.RingSolver.{_:+_, _:-_, _:*_, :-_, _:=_, :0, nil-mul}

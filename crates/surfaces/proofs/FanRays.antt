@@ -1,25 +1,22 @@
 -- Rays of the fans of a sound surface. No ray lies in the sector of a later corner of its fan (`apart`),
 -- and the last ray of a corner lies in the sector of no earlier one (`apart-before`).
-use mathlib.Core.Path.{_≡_, refl, sym, ap, ap₂, subst, _∙_}
+use mathlib.Core.Path.{_≡_, sym, ap, ap₂, subst, _∙_}
 use mathlib.Core.Logic.{_⊎_, inl, inr}
-use Prim.Native.Nat.{ℕ, _+_, _*_, _/_, _%_, _<_, _≤_}
+use Prim.Native.Nat.{ℕ, _*_, _/_, _%_, _<_}
 use native.Mathlib.Omega.{arith}
 use Rattle.std.proofs.shelf.Ways.{eqb-tells}
-use Rattle.std.specs.declared.option.Option.{Option}
 use Rattle.std.specs.declared.option.Option.the-variants.{Some, None}
 use Rattle.base.specs.declared.ids.TriangleId.{TriangleId}
 use Rattle.base.specs.declared.ids.HalfEdgeId.{HalfEdgeId}
 use Rattle.base.specs.Ids.{half-edge, side, triangle-of, next, previous}
-use Rattle.algebra.specs.Arithmetic.{Nn}
-use Rattle.algebra.specs.Number.{Number, Positive, quadratics}
+use Rattle.algebra.specs.Number.{Number, Positive}
 use Rattle.algebra.specs.Plane.{Vec}
 use Rattle.algebra.proofs.OrderedRing.{pos-eq, nn-eq}
 use Rattle.algebra.proofs.Quadratics.{quadratic-ring}
-use Rattle.geometry.specs.Plane.{Point, step, turn}
+use Rattle.geometry.specs.Plane.{step, turn}
 use Rattle.geometry.specs.declared.Turn.the-variants.{Left}
 use Rattle.mesh.specs.Surface.{Surface, Has, spot, Twins, on, Later, one, more, Covers, NotRight}
 use Rattle.mesh.specs.Sound.{Sound}
-use Rattle.surfaces.specs.Lawful.{Lawful}
 use Rattle.mesh.proofs.FanSteps.{next-previous, previous-within, on-within, later-within, opens-fan}
 use Rattle.surfaces.specs.Laws.{RaysApart}
 use Rattle.surfaces.proofs.Turns.{_⋀_, left-pos, not-right, nn-not-right, turn-rolled}

@@ -1,5 +1,5 @@
 -- Twins of a lawful surface are mutual and have codes that fit; and the twin in a mirrored surface, asked with such codes: 65,535 has no mirrored side of its own, and no twin either.
-use mathlib.Core.Path.{_≡_, refl, sym, ap, subst, _∙_}
+use mathlib.Core.Path.{_≡_, sym, ap, _∙_}
 use mathlib.Core.Logic.{inl, inr}
 use Prim.Native.Nat.{ℕ, _*_, _<_, _≤_}
 use native.Mathlib.Omega.{arith}
@@ -9,7 +9,7 @@ use Rattle.base.specs.declared.ids.HalfEdgeId.{HalfEdgeId}
 use Rattle.base.specs.Ids.{boundary, mirror-side}
 use Rattle.mesh.specs.Surface.{Surface, Twins}
 use Rattle.surfaces.specs.Lawful.{Lawful}
-use Rattle.surfaces.specs.Layers.{mirrored, renamed}
+use Rattle.surfaces.specs.Layers.{renamed}
 use Rattle.surfaces.proofs.Codes.{side-past}
 use Rattle.surfaces.proofs.SheetCells.{split}
 

@@ -1,6 +1,6 @@
 -- Accepted lists are vetted, and so are empty ones; and the surface of vetted lists is what a mesh owes.
-use mathlib.Core.Path.{_≡_, refl, sym, ap, subst, _∙_}
-use mathlib.Core.List.{List, [], map}
+use mathlib.Core.Path.{_≡_, refl, sym, ap, _∙_}
+use mathlib.Core.List.{List, map}
 use mathlib.Core.Logic.{∥∥₁-elim, ∥∥₁-prop}
 use mathlib.Core.HLevel.{⊥-prop}
 use Prim.Native.Nat.{ℕ, _*_, _<_, _≤_}
@@ -9,7 +9,7 @@ use native.Mathlib.Nat.{ℕ-set}
 use native.Mathlib.Bridge.{le-prop}
 use lib.ListN.{length, getD, length-map}
 use Rattle.std.proofs.shelf.Lists.{getD-past, getD-map}
-use Rattle.std.specs.declared.option.Option.the-variants.{Some, None}
+use Rattle.std.specs.declared.option.Option.the-variants.{Some}
 use Rattle.base.specs.declared.ids.VertexId.{VertexId}
 use Rattle.base.specs.declared.ids.HalfEdgeId.{HalfEdgeId}
 use Rattle.base.specs.declared.refusals.Refusal.{Refusal}

@@ -1,4 +1,4 @@
--- The mirror image of a sound surface is sound, and so on; mirrored twice it is the same surface again.
+-- The mirror image of a lawful surface is lawful, and mirrored twice a surface is the same again.
 -- Its fans are those of the surface below, read from their other end.
 use mathlib.Core.Path.{_≡_, refl, sym, ap, ap₂, subst, _∙_}
 use Prim.Native.Nat.{ℕ, _*_, _<_}
@@ -11,9 +11,8 @@ use Rattle.base.specs.declared.ids.TriangleId.{TriangleId}
 use Rattle.base.specs.declared.ids.HalfEdgeId.{HalfEdgeId}
 use Rattle.base.specs.Ids.{half-edge, side, next, previous, mirror-side, mirror-corner}
 use Rattle.algebra.specs.Number.{Number, number, minus}
-use Rattle.geometry.specs.Plane.{Point, point, turn, mirror}
-use Rattle.geometry.specs.declared.Turn.{Turn}
-use Rattle.mesh.specs.Surface.{Surface, Has, Ended, spot, triangle-turn, Twins, on, Later, one, more, Opens, edge, across, Ends, edge-ahead, ahead, NotRight}
+use Rattle.geometry.specs.Plane.{point, turn, mirror}
+use Rattle.mesh.specs.Surface.{Surface, Has, spot, on, Later, one, more, Opens, edge, across, Ends, edge-ahead, ahead, NotRight}
 use Rattle.mesh.proofs.FanSteps.{later-within}
 use Rattle.mesh.proofs.FansEnding.{fans-end}
 use Rattle.mesh.specs.Sound.{Sound, TurnsLeft, Paired, FallsShort}

@@ -1,13 +1,12 @@
 -- What the definitions of the sheet come to at a number that is given, and how large the numbers grow.
 use mathlib.Core.Path.{_≡_, refl, sym, ap, ap₂, subst, _∙_}
-use mathlib.Core.List.{[], _∷_}
-use mathlib.Core.Bool.{Bool, true, false, cond}
+use mathlib.Core.List.{_∷_, []}
+use mathlib.Core.Bool.{false, cond}
 use Prim.Native.Nat.{ℕ, zero, suc, _+_, _-_, _*_, _/_, _%_, _<_, _≤_}
 use native.Mathlib.Omega.{arith}
 use native.Mathlib.Nat.{mul-le-mul, mul-comm, div-lt-iff-lt-mul}
 use lib.Dec.{eqb}
 use Rattle.std.proofs.shelf.Ways.{tells}
-use Rattle.std.specs.declared.option.Option.{Option}
 use Rattle.std.specs.declared.option.Option.the-variants.{Some, None}
 use Rattle.base.specs.declared.ids.TriangleId.{TriangleId}
 use Rattle.base.specs.declared.ids.VertexId.{VertexId}
@@ -15,9 +14,8 @@ use Rattle.base.specs.declared.ids.HalfEdgeId.{HalfEdgeId}
 use Rattle.base.specs.Ids.{vertex, half-edge, side}
 use Rattle.mesh.specs.Surface.{Surface}
 use Rattle.surfaces.specs.Lawful.{CornersOf}
-use Rattle.surfaces.specs.Sheet.{Cell, cell, kept, pair, cell-number, cell-in, numbered, cells, Edge, bottom, right, down, up, top, left, edge, code, opposite, crossing, grid-vertex, width, sheet-corner, sheet-twin, sheet}
-use Rattle.surfaces.proofs.SheetCells.{Kept, of-kept, numbered-kept, number-numbered, below-test, cell-low, cell-high}
-use Rattle.surfaces.proofs.SheetLawful.{sheet-ended}
+use Rattle.surfaces.specs.Sheet.{Cell, cell, kept, pair, cell-number, numbered, cells, Edge, bottom, right, down, up, top, left, edge, crossing, width, sheet-corner, sheet-twin, sheet}
+use Rattle.surfaces.proofs.SheetCells.{of-kept, numbered-kept, number-numbered, below-test, cell-low, cell-high}
 
 pub pairs-fit : (a m : ℕ) → a ≤ 25 → m ≤ 25 → m * pair a ≤ 1925
 pairs-fit a m h k = let p : pair a ≤ 77 = omega arith in mul-le-mul k p

@@ -2,11 +2,11 @@
 -- and every number below the count is the number of a kept cell. So what holds of each half-edge of each kept cell holds of each half-edge of the sheet.
 use mathlib.Core.Path.{_≡_, refl, sym, ap, ap₂, subst, _∙_}
 use mathlib.Core.Logic.{_⊎_, inl, inr}
-use mathlib.Core.Bool.{Bool, true, false, cond, not, _&&_}
+use mathlib.Core.Bool.{true, false, cond}
 use Prim.Native.Nat.{ℕ, zero, suc, _+_, _-_, _*_, _/_, _%_, _<_, _≤_}
 use native.Mathlib.Omega.{arith}
 use native.Mathlib.Nat.{mod-lt, div-add-mod', mul-le-mul-right}
-use lib.Dec.{eqb, leb, ltb}
+use lib.Dec.{ltb}
 use lib.Arith.{digits-div, digits-mod, digits-lt}
 use Rattle.std.proofs.shelf.Ways.{tells, leb-tells}
 use Rattle.base.specs.declared.ids.HalfEdgeId.{HalfEdgeId}

@@ -1,17 +1,16 @@
 -- Two half-edges of the sheet are twins exactly if each runs from the other's end to its start.
-use mathlib.Core.Path.{_≡_, refl, sym, ap, ap₂, subst, _∙_}
-use mathlib.Core.Bool.{Bool, true, false, cond}
-use Prim.Native.Nat.{ℕ, _+_, _-_, _*_, _/_, _%_, _<_, _≤_}
+use mathlib.Core.Path.{_≡_, refl, sym, ap, _∙_}
+use mathlib.Core.Bool.{false, cond}
+use Prim.Native.Nat.{ℕ, _+_, _-_, _/_, _%_, _<_}
 use native.Mathlib.Omega.{arith}
 use lib.Dec.{eqb}
 use lib.Arith.{digits-div, digits-mod}
 use Rattle.std.proofs.shelf.Ways.{tells}
-use Rattle.std.specs.declared.option.Option.{Option}
 use Rattle.std.specs.declared.option.Option.the-variants.{Some, None}
 use Rattle.base.specs.declared.ids.HalfEdgeId.{HalfEdgeId}
 use Rattle.base.specs.Ids.{next}
-use Rattle.mesh.specs.Surface.{Surface, Has}
-use Rattle.surfaces.specs.Sheet.{Cell, cell, cells, Edge, bottom, right, down, up, top, left, code, opposite, beyond, corner-column, corner-row, grid-vertex, width, sheet, TwinsByEnds}
+use Rattle.mesh.specs.Surface.{Surface}
+use Rattle.surfaces.specs.Sheet.{Cell, cell, Edge, bottom, right, down, up, top, left, code, opposite, beyond, corner-column, corner-row, grid-vertex, width, sheet, TwinsByEnds}
 use Rattle.surfaces.proofs.SheetCells.{Kept, each, same-cell}
 use Rattle.surfaces.proofs.SheetTwins.{after, next-code, corner-at, Shares, leads-to, twins-at}
 use Rattle.surfaces.proofs.SheetGrid.{column-below}

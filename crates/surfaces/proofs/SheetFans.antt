@@ -1,10 +1,9 @@
 -- Fans of the sheet. Of the four squares round a vertex the one with odd column and odd row is never kept. A corner's place in its fan is how many
 -- rays it is on from that square: at most four. So going back from a corner ends, and no first ray comes round again.
 use mathlib.Core.Path.{_≡_, refl, sym, ap, ap₂, subst, _∙_}
-use mathlib.Core.Bool.{Bool, true, false, cond}
-use Prim.Native.Nat.{ℕ, zero, suc, _+_, _-_, _*_, _/_, _%_, _<_, _≤_}
+use mathlib.Core.Bool.{cond}
+use Prim.Native.Nat.{ℕ, zero, suc, _+_, _-_, _%_, _<_, _≤_}
 use native.Mathlib.Omega.{arith}
-use lib.Dec.{eqb}
 use Rattle.std.proofs.shelf.Ways.{tells}
 use Rattle.std.specs.declared.option.Option.{Option}
 use Rattle.std.specs.declared.option.Option.the-variants.{Some, None}
@@ -15,8 +14,8 @@ use Rattle.algebra.specs.Number.{quadratics}
 use Rattle.algebra.proofs.OrderedRing.{nn-eq}
 use Rattle.algebra.proofs.Quadratics.{quadratic-ring}
 use Rattle.geometry.specs.Plane.{step}
-use Rattle.mesh.specs.Surface.{Surface, Has, spot, on, Later, one, more, Opens, edge, across, Covers}
-use Rattle.surfaces.specs.Sheet.{Cell, odd, cells, Edge, bottom, right, down, up, top, left, code, opposite, corner-column, corner-row, grid-point, sheet}
+use Rattle.mesh.specs.Surface.{Surface, spot, on, Later, one, more, Opens, edge, across, Covers}
+use Rattle.surfaces.specs.Sheet.{Cell, odd, Edge, bottom, right, down, up, top, left, code, opposite, corner-column, corner-row, grid-point, sheet}
 use Rattle.surfaces.proofs.Turns.{_⋀_, not-right}
 use Rattle.surfaces.proofs.SheetCells.{Kept}
 use Rattle.surfaces.proofs.SheetTwins.{after, before, next-code, previous-code, Crossed, crossed, shares}

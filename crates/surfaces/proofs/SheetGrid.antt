@@ -1,27 +1,24 @@
 -- Points of the sheet: a half-edge of a kept cell begins at the grid point of its column and row, and runs one pitch along, up, or both.
 -- Hence every triangle turns left, and rays that follow one another round a vertex are in order.
 use mathlib.Core.Path.{_≡_, refl, sym, ap, ap₂, subst, _∙_}
-use mathlib.Core.Bool.{Bool, true, false, cond}
-use Prim.Native.Nat.{ℕ, zero, suc, _+_, _-_, _*_, _/_, _%_, _<_, _≤_}
+use mathlib.Core.Bool.{cond}
+use Prim.Native.Nat.{ℕ, _+_, _*_, _/_, _%_, _<_}
 use native.Mathlib.Omega.{arith}
 use native.Mathlib.Nat.{mul-comm}
-use lib.Dec.{ltb}
 use lib.Arith.{digits-div, digits-mod, digits-lt}
-use lib.IntN.{ℤ, pos, _+ℤ_, negℤ}
-use Rattle.std.proofs.shelf.Ways.{tells}
+use lib.IntN.{pos}
 use Rattle.std.proofs.shelf.Signed.{ints}
-use Rattle.base.specs.declared.ids.HalfEdgeId.{HalfEdgeId}
 use Rattle.base.specs.Ids.{next, previous}
 use Rattle.algebra.specs.Arithmetic.{Ops}
-use Rattle.algebra.specs.Number.{Number, number, _⊕_, _⊛_, minus, zero as nought, Positive, neither, quadratics, quadratic-ops}
-use Rattle.algebra.specs.Plane.{Vec, cross, less, _⊗_}
-use Rattle.algebra.proofs.RingSolver.{CommRing, ring, _:+_, _:-_, _:*_, :-_, _:=_, :0, Expr, E}
+use Rattle.algebra.specs.Number.{Number, number, _⊕_, _⊛_, minus, zero as nought, Positive, neither, quadratic-ops}
+use Rattle.algebra.specs.Plane.{Vec, cross, _⊗_}
+use Rattle.algebra.proofs.RingSolver.{CommRing, ring, _:-_, _:*_, :-_, _:=_, E}
 use Rattle.algebra.proofs.OrderedRing.{base, pos-eq, pos-mul}
 use Rattle.algebra.proofs.Quadratics.{quadratic-ring}
 use Rattle.geometry.specs.Plane.{Point, point, origin, step, turn}
 use Rattle.geometry.specs.declared.Turn.the-variants.{Left}
 use Rattle.mesh.specs.Surface.{Surface, spot}
-use Rattle.surfaces.specs.Sheet.{Cell, cell, cells, Edge, bottom, right, down, up, top, left, code, corner-column, corner-row, grid-vertex, grid-point, width, sheet}
+use Rattle.surfaces.specs.Sheet.{Cell, Edge, bottom, right, down, up, top, left, code, corner-column, corner-row, grid-vertex, grid-point, width, sheet}
 use Rattle.surfaces.proofs.Turns.{_⋀_, pos-left}
 use Rattle.surfaces.proofs.SheetCells.{Kept, below-test}
 use Rattle.surfaces.proofs.SheetTwins.{after, before, next-code, previous-code, corner-at}

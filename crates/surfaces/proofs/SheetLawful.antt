@@ -1,7 +1,7 @@
 -- The sheet is sound, ended and within the limits, for any number of columns and rows up to 25 and any pitch above 0.
-use mathlib.Core.Path.{_≡_, refl, sym, ap, ap₂, subst, _∙_}
-use mathlib.Core.Bool.{Bool, true, false, cond}
-use Prim.Native.Nat.{ℕ, _+_, _*_, _/_, _%_, _<_, _≤_}
+use mathlib.Core.Path.{_≡_, sym, ap, ap₂, _∙_}
+use mathlib.Core.Bool.{false}
+use Prim.Native.Nat.{ℕ, _+_, _*_, _<_, _≤_}
 use native.Mathlib.Omega.{arith}
 use native.Mathlib.Nat.{mul-le-mul}
 use lib.Dec.{ltb}
@@ -11,7 +11,7 @@ use Rattle.base.specs.declared.ids.HalfEdgeId.{HalfEdgeId}
 use Rattle.base.specs.Ids.{half-edge, side, next, previous}
 use Rattle.geometry.specs.Plane.{turn}
 use Rattle.geometry.specs.declared.Turn.the-variants.{Left}
-use Rattle.mesh.specs.Surface.{Surface, Has, Ended, spot, triangle-turn, Later, Covers, Opens}
+use Rattle.mesh.specs.Surface.{Surface, Has, Ended, spot, Later, Covers, Opens}
 use Rattle.mesh.specs.Sound.{Sound, CornerBelow, Paired, TurnsLeft}
 use Rattle.surfaces.specs.Lawful.{Lawful}
 use Rattle.surfaces.specs.Sheet.{cells, pair, width, sheet}

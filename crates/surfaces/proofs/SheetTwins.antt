@@ -1,17 +1,17 @@
 -- Twins of the sheet: the half-edge across is that of the kept cell beyond, the two lead to each other and share their ends.
 use mathlib.Core.Path.{_≡_, refl, sym, ap, ap₂, subst, _∙_}
-use mathlib.Core.Logic.{_⊎_, inl, inr}
-use mathlib.Core.Bool.{Bool, true, false, cond, not, _&&_}
-use Prim.Native.Nat.{ℕ, zero, suc, _+_, _-_, _*_, _/_, _%_, _<_, _≤_}
+use mathlib.Core.Logic.{inl, inr}
+use mathlib.Core.Bool.{Bool, true, false, cond}
+use Prim.Native.Nat.{ℕ, _+_, _-_, _*_}
 use native.Mathlib.Omega.{arith}
-use lib.Dec.{eqb, leb, ltb}
+use lib.Dec.{eqb}
 use Rattle.std.proofs.shelf.Ways.{tells, eqb-tells}
 use Rattle.std.specs.declared.option.Option.{Option}
 use Rattle.std.specs.declared.option.Option.the-variants.{Some, None}
 use Rattle.base.specs.declared.ids.HalfEdgeId.{HalfEdgeId}
 use Rattle.base.specs.Ids.{half-edge, next, previous}
 use Rattle.mesh.specs.Surface.{Surface, Has, Twins}
-use Rattle.surfaces.specs.Sheet.{Cell, cell, odd, kept, pair, cell-number, cells, Edge, bottom, right, down, up, top, left, edge-number, code, opposite, beyond, crossing, corner-column, corner-row, grid-vertex, sheet-corner, sheet-twin, sheet}
+use Rattle.surfaces.specs.Sheet.{Cell, cell, kept, cell-number, Edge, bottom, right, down, up, top, left, edge-number, code, opposite, beyond, crossing, corner-column, corner-row, grid-vertex, sheet-corner, sheet-twin, sheet}
 use Rattle.surfaces.proofs.SheetCells.{Kept, kept-of, of-kept, code-below, at-code}
 
 -- the half-edges of one triangle

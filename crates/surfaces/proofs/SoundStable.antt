@@ -1,8 +1,8 @@
 -- That a surface is sound has one proof at most in each of its parts, so where it is only known that there is some proof there is one to be had.
-use mathlib.Core.Path.{_≡_, refl, sym, ap, ap₂, _∙_, pathJ}
+use mathlib.Core.Path.{_≡_, refl, ap, ap₂, pathJ}
 use mathlib.Core.Logic.{∥∥₁-elim}
 use mathlib.Core.HLevel.{⊥-prop}
-use Prim.Native.Nat.{ℕ, zero, suc, _<_, _≤_}
+use Prim.Native.Nat.{ℕ, zero, suc}
 use native.Mathlib.Nat.{ℕ-set}
 use native.Mathlib.Bridge.{le-prop}
 use ghost.Sets.{retract-set}

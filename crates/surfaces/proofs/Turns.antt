@@ -1,19 +1,18 @@
 -- What a turn says of a cross product, and the other way round.
-use mathlib.Core.Path.{_≡_, refl, sym, ap, subst, _∙_}
+use mathlib.Core.Path.{_≡_, refl, ap, _∙_}
 use Prim.Native.Nat.{ℕ}
 use native.Mathlib.Omega.{arith}
-use Rattle.algebra.specs.Arithmetic.{Ops, OrderLaws, Arithmetic, Nn}
-use Rattle.algebra.specs.Number.{Number, minus, zero, Positive, sign, Signed, quadratics, quadratic-ops}
-use Rattle.algebra.specs.Plane.{Vec, cross, less, _⊗_}
+use Rattle.algebra.specs.Arithmetic.{Nn}
+use Rattle.algebra.specs.Number.{Number, minus, Positive, sign, Signed, quadratics}
+use Rattle.algebra.specs.Plane.{Vec, less, _⊗_}
 use Rattle.algebra.specs.declared.Sign.{Sign}
 use Rattle.algebra.specs.declared.Sign.the-variants.{Minus, Zero, Plus}
-use Rattle.algebra.proofs.RingSolver.{_:+_, _:-_, _:*_, :-_, _:=_, :0, Expr, E, neg-nil}
-use Rattle.algebra.proofs.OrderedRing.{base, pos-eq, nn-eq, nn-pos, nn-nil, clash}
+use Rattle.algebra.proofs.RingSolver.{_:-_, :-_, _:=_, Expr, E, neg-nil}
+use Rattle.algebra.proofs.OrderedRing.{base, pos-eq, clash}
 use Rattle.algebra.proofs.PlaneSolver.{_:×_, ringV}
 use Rattle.algebra.proofs.Quadratics.{quadratic-ring, ordered-ring, signs-say}
 use Rattle.geometry.specs.Plane.{Point, step, doubled-area, turn, turn-by, mirror}
-use Rattle.geometry.specs.declared.Turn.{Turn}
-use Rattle.geometry.specs.declared.Turn.the-variants.{Left, Straight, Right}
+use Rattle.geometry.specs.declared.Turn.the-variants.{Left, Right}
 use Rattle.mesh.specs.Surface.{NotRight}
 
 infix 72 _⋀_

@@ -1,19 +1,16 @@
 -- Lawful      what every mesh owes: its surface is sound, answers fixed values past its end, and has at most 4,096 triangles and 8,192 vertices
 -- Vetted      what an indexed mesh knows of its lists: they keep the limits from above, all coordinates are in range, and their surface is sound
--- no-lists    lists with nothing in them
--- nothing     the surface with no triangle and no vertex
+-- no-lists    lists with nothing in them: no triangle, no vertex
 -- CornersOf   an array holds the vertices at the three corners of a triangle
 -- Alike       two surfaces say the same at every half-edge and every vertex
 use mathlib.Core.Path.{_≡_}
 use mathlib.Core.List.{List, []}
 use Prim.Native.Nat.{_*_, _<_, _≤_}
 use lib.ListN.{length, getD}
-use Rattle.std.specs.declared.option.Option.the-variants.{None}
 use Rattle.base.specs.declared.ids.TriangleId.{TriangleId}
 use Rattle.base.specs.declared.ids.VertexId.{VertexId}
 use Rattle.base.specs.declared.ids.HalfEdgeId.{HalfEdgeId}
 use Rattle.base.specs.Ids.{vertex, side}
-use Rattle.geometry.specs.Plane.{origin}
 use Rattle.mesh.specs.Surface.{Surface, Ended}
 use Rattle.mesh.specs.Sound.{Sound}
 use Rattle.mesh.specs.Lists.{Lists, lists, listed, InRange}
@@ -34,9 +31,6 @@ pub record Vetted (l : Lists) : Type 0 where
 
 abbrev pub no-lists : Lists
 no-lists = lists 0 [] [] []
-
-abbrev pub nothing : Surface
-nothing = record { F = 0; V = 0; corner = λ h. vertex 0; point = λ v. origin; twin = λ h. None }
 
 pub record CornersOf (f : Surface) (t : TriangleId) (vs : List VertexId) : Type 0 where
   pub first : getD vs 0 (vertex 0) ≡ f .corner (side t 0)

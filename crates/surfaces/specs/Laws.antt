@@ -10,7 +10,7 @@
 -- BarredAgain       one more bar is one more layer with that bar alone
 -- RaysApart         in a fan no first ray lies in the sector of a later corner, and no last ray in the sector of an earlier one
 use mathlib.Core.Path.{_≡_}
-use mathlib.Core.List.{List, [], _∷_, _++_}
+use mathlib.Core.List.{List, _∷_, _++_, []}
 use mathlib.Core.Bool.{true, false, _||_}
 use Prim.Native.Nat.{ℕ, _≤_}
 use Rattle.std.specs.declared.option.Option.the-variants.{Some, None}

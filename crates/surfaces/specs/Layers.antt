@@ -1,10 +1,11 @@
--- mirrored    the surface with the sign of x changed and corners 1 and 2 of every triangle exchanged, so that its triangles turn left again
--- renamed     the twin of a side, under its code there
--- barred      the surface whose barred portals are boundary from both sides
--- among       a half-edge is one of a list
--- bar-refusal     why a side cannot be barred: it is no portal as the surface shows it, or else 64 bars stand already
+-- renamed         the twin of a side, under its code in the mirror image
+-- mirrored        the surface with the sign of x changed and corners 1 and 2 of every triangle exchanged, so that its triangles turn left again
+-- among           a half-edge is one of a list
 -- unless-barred   the half-edge across a side, unless it or the side is barred
-use mathlib.Core.List.{List, [], _∷_}
+-- barred          the surface whose barred portals are boundary from both sides
+-- portal-refusal  why a side with this half-edge across it cannot be barred
+-- bar-refusal     why a side cannot be barred: it is no portal as the surface shows it, or else 64 bars stand already
+use mathlib.Core.List.{List, _∷_, []}
 use mathlib.Core.Bool.{Bool, false, cond, _||_}
 use Prim.Native.Nat.{ℕ}
 use lib.Dec.{leb, eqb}

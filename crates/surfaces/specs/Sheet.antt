@@ -1,18 +1,24 @@
 -- The sheet with a columns and b rows of square holes, at the pitch g.
--- Cell            a square of the grid, by its column and its row
+-- Cell            a square of the grid, by its column and its row; cell makes one
+-- odd             a number leaves 1 at division by 2
 -- kept            a cell of the sheet: its column is at most 2a, its row at most 2b, and one of them is even; with both odd it is a hole
--- cell-number     the number of a kept cell: by pairs of rows, in each pair the even row before the odd one, from left to right
+-- pair            how many cells are kept of an even row and the odd row above it
+-- cell-number     the number of a kept cell: by such pairs of rows, in each the even row before the odd one, from left to right
+-- cell-in         the cell at a place of a pair of rows
 -- numbered        the cell of a number
 -- cells           how many cells are kept
 -- Edge            the six half-edges of a cell: bottom, right and down of its lower triangle, up, top and left of its upper one; down and up are the two halves of its diagonal
--- edge            the half-edge of a cell by its number
+-- edge            the half-edge of a cell by its number, and edge-number back
 -- code            a half-edge of a kept cell, as the sheet numbers them: triangle 2n is the lower one of cell n, 2n + 1 the upper
 -- opposite        the half-edge that runs the other way on the same side of the square
 -- beyond          the cell across a half-edge, if the grid has one there
 -- crossing        the half-edge across: that of the cell beyond, if it is kept
 -- corner-column, corner-row   where in the grid a half-edge of a cell begins
+-- width           how many vertices a row of the grid has; with the rows of holes in place of the columns, how many a column has
 -- grid-vertex     the vertex of a column and a row
 -- grid-point      the point of a column and a row
+-- sheet-corner    the vertex at which a half-edge of a cell begins
+-- sheet-twin      the half-edge across a half-edge of a cell
 -- sheet           the surface of it all; past its end it answers vertex 0, the origin and boundary
 -- sheet-refusal   why a sheet cannot be made: more than 25 columns, or else more than 25 rows, or else a pitch that is not 3 to 100
 -- CellsByNumber   kept cells and the numbers below their count are the same thing: each leads to the other and back
@@ -47,7 +53,6 @@ odd n = eqb (n % 2) 1
 abbrev pub kept : ℕ → ℕ → Cell → Bool
 kept a b q = leb (q .column) (2 * a) && leb (q .row) (2 * b) && not (odd (q .column) && odd (q .row))
 
--- the cells of an even row and of the odd row above it
 abbrev pub pair : ℕ → ℕ
 pair a = 3 * a + 2
 
@@ -126,7 +131,6 @@ corner-row q up = q .row
 corner-row q top = q .row + 1
 corner-row q left = q .row + 1
 
--- the vertices of one row of the grid
 abbrev pub width : ℕ → ℕ
 width a = 2 * a + 2
 

@@ -1,4 +1,3 @@
-use mathlib.Core.Path.{sym}
 use Rattle.surfaces.proofs.LayerTwins.{twin-renamed}
 use Rattle.meshes.proofs.mirrors.MirroredMesh.twin.Needs as need
 
