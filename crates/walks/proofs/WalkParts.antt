@@ -60,13 +60,13 @@ module _ (f : Surface) where
       ∙ walk-arrives t u′ (reduction recrossed same-crossing w) (walk-reduced t u′ w k)
 
   module _ (pairs : AtEach f Paired) where
-    left-within : (t : TriangleId) (c : Crossing) → t .0 < f .F → triangle-of (c .left) ≡ t → Has f (c .left)
+    pub left-within : (t : TriangleId) (c : Crossing) → t .0 < f .F → triangle-of (c .left) ≡ t → Has f (c .left)
     left-within t c h e = let q = ap (λ x. x .0) e in omega arith
 
     twin-back : (t : TriangleId) (c : Crossing) → t .0 < f .F → triangle-of (c .left) ≡ t → f .twin (c .left) ≡ Some (c .entered) → f .twin (c .entered) ≡ Some (c .left)
     twin-back t c h e k = pairs (c .left) (left-within t c h e) (c .entered) k .back
 
-    entered-below : (t : TriangleId) (c : Crossing) → t .0 < f .F → triangle-of (c .left) ≡ t → f .twin (c .left) ≡ Some (c .entered) → triangle-of (c .entered) .0 < f .F
+    pub entered-below : (t : TriangleId) (c : Crossing) → t .0 < f .F → triangle-of (c .left) ≡ t → f .twin (c .left) ≡ Some (c .entered) → triangle-of (c .entered) .0 < f .F
     entered-below t c h e k = let w : Has f (c .entered) = pairs (c .left) (left-within t c h e) (c .entered) k .within in omega arith
 
     pub walk-within : (t u : TriangleId) (w : List Crossing) → t .0 < f .F → Walk f t w u → u .0 < f .F
