@@ -137,7 +137,7 @@ module _ (f : Surface) where
         let left : spot f (c .entered) ≡ spot f (next (c .left)) = ap (f .point) (sym (twins-of c k .to)) in
         let right : spot f (next (c .entered)) ≡ spot f (c .left) = ap (f .point) (sym (twins-of c k .from)) in
         subst (λ r. Positive (veer quadratics Left (spot f (next (c .left)) ⟶ r) (spot f (next (c .left)) ⟶ p))) right
-          (subst (λ l. Positive (veer quadratics Left (l ⟶ spot f (next (c .entered))) (l ⟶ p))) left h)
+        (subst (λ l. Positive (veer quadratics Left (l ⟶ spot f (next (c .entered))) (l ⟶ p))) left h)
 
     third-in-front : (c : Crossing) → Crossed f c → Front quadratics (portal-of f c) (spot f (previous (c .entered)))
     third-in-front c k = in-front c k (spot f (previous (c .entered))) (corner-turns f sound (c .entered) (entered-within c k) Left)
@@ -145,16 +145,17 @@ module _ (f : Surface) where
     pub keeps : (t : Side) (c d : Crossing) → Crossed f c → Goes-on t c d → Keeps quadratics t (portal-of f c) (portal-of f d)
     keeps t c d k on =
         let new : end (other t) (portal-of f d) ≡ vertex-at f (previous (c .entered)) =
-            far-end-at t d ∙ ap (λ h. vertex-at f (far t h)) on ∙ ap (vertex-at f) (third-corner t c) in
-        let front = third-in-front c k in
-        ( end-at t d ∙ ap (vertex-at f) on ∙ sym (same-vertex-at (before t c) (after t c) (same-end t c k)) ∙ sym (end-at t c),
+        far-end-at t d ∙ ap (λ h. vertex-at f (far t h)) on ∙ ap (vertex-at f) (third-corner t c) in
+        let front = third-in-front c k in (
+          end-at t d ∙ ap (vertex-at f) on ∙ sym (same-vertex-at (before t c) (after t c) (same-end t c k)) ∙ sym (end-at t c),
           subst (λ v. Front quadratics (portal-of f c) (v .point)) (sym new) front,
           λ e.
-            let same : f .corner (previous (c .entered)) .0 ≡ f .corner (far t (before t c)) .0 =
-                sym (ap (λ v. v .number) new) ∙ e ∙ ap (λ v. v .number) (far-end-at t c) in
-            let there : spot f (previous (c .entered)) ≡ end (other t) (portal-of f c) .point =
-                ap (λ n. f .point (vertex n)) same ∙ sym (ap (λ v. v .point) (far-end-at t c)) in
-            front-ends (other t) (portal-of f c) (subst (Front quadratics (portal-of f c)) there front) )
+              let same : f .corner (previous (c .entered)) .0 ≡ f .corner (far t (before t c)) .0 =
+              sym (ap (λ v. v .number) new) ∙ e ∙ ap (λ v. v .number) (far-end-at t c) in
+              let there : spot f (previous (c .entered)) ≡ end (other t) (portal-of f c) .point =
+              ap (λ n. f .point (vertex n)) same ∙ sym (ap (λ v. v .point) (far-end-at t c)) in
+              front-ends (other t) (portal-of f c) (subst (Front quadratics (portal-of f c)) there front),
+        )
 
     -- a crossing followed by one out of the triangle entered: it is the way back, or it goes on round one end
     pub goes-on-round : (c d : Crossing) (w : List Crossing) → Crossed f c → triangle-of (d .left) ≡ triangle-of (c .entered) → f .twin (d .left) ≡ Some (d .entered) → Reduced recrossed (c ∷ d ∷ w)

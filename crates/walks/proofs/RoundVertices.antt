@@ -60,10 +60,11 @@ module _ (f : Surface) (sound : Sound f) where
   sweeps : (h : HalfEdgeId) (gs : List HalfEdgeId) (v : Point) → Has f h → spot f h ≡ v → Round-on f Left h gs → Sweeps quadratics Left (v ⟶ spot f (previous h)) (fars f Left v gs)
   sweeps h [] v w is r = tt
   sweeps h (g ∷ gs) v w is r =
-      let here = same-spot Left h g v w (r .1) (r .0) is in
-      (subst (λ n. Positive (veer quadratics Left (v ⟶ n) (v ⟶ spot f (previous g)))) (sym (ap (f .point) (shared-ray Left h g w (r .1) (r .0))))
-        (subst (λ u. Positive (veer quadratics Left (u ⟶ spot f (next g)) (u ⟶ spot f (previous g)))) here (corner-turns f sound g (r .1) Left)),
-       sweeps g gs v (r .1) here (r .2))
+      let here = same-spot Left h g v w (r .1) (r .0) is in (
+        subst (λ n. Positive (veer quadratics Left (v ⟶ n) (v ⟶ spot f (previous g)))) (sym (ap (f .point) (shared-ray Left h g w (r .1) (r .0))))
+            (subst (λ u. Positive (veer quadratics Left (u ⟶ spot f (next g)) (u ⟶ spot f (previous g)))) here (corner-turns f sound g (r .1) Left)),
+        sweeps g gs v (r .1) here (r .2),
+      )
 
   -- the first ray of a fan comes up in no later sector
   clears : (s h : HalfEdgeId) (gs : List HalfEdgeId) (v : Point) → Starts f s → InFan f s h → spot f h ≡ v → Round-on f Left h gs → Clear quadratics Left (v ⟶ spot f (next s)) (v ⟶ spot f (previous h)) (fars f Left v gs)
@@ -71,19 +72,21 @@ module _ (f : Surface) (sound : Sound f) where
   clears s h (g ∷ gs) v b i is r =
       let w = fan-within f (sound .twins) (b .has) i in
       let here = same-spot Left h g v w (r .1) (r .0) is in
-      let later = fan-on f (sound .twins) i (r .0) in
-      ((λ c.
-          let d : Sector quadratics Left (spot f g ⟶ spot f (next s)) (spot f g ⟶ spot f (next g)) (spot f g ⟶ spot f (previous g)) =
-              subst (λ n. Sector quadratics Left (spot f g ⟶ spot f (next s)) (spot f g ⟶ n) (spot f g ⟶ spot f (previous g))) (ap (f .point) (shared-ray Left h g w (r .1) (r .0)))
-                (subst (λ u. Sector quadratics Left (u ⟶ spot f (next s)) (u ⟶ spot f (previous h)) (u ⟶ spot f (previous g))) (sym here) c) in
-          sound .spans g (r .1) s (b .has) (b .rim) later (not-right (spot f g) (spot f (next g)) (spot f (next s)) (d .0), not-right (spot f g) (spot f (next s)) (spot f (previous g)) (d .1))),
-       clears s g gs v b (inr later) here (r .2))
+      let later = fan-on f (sound .twins) i (r .0) in (
+        (λ c.
+            let d : Sector quadratics Left (spot f g ⟶ spot f (next s)) (spot f g ⟶ spot f (next g)) (spot f g ⟶ spot f (previous g)) =
+            subst (λ n. Sector quadratics Left (spot f g ⟶ spot f (next s)) (spot f g ⟶ n) (spot f g ⟶ spot f (previous g))) (ap (f .point) (shared-ray Left h g w (r .1) (r .0)))
+            (subst (λ u. Sector quadratics Left (u ⟶ spot f (next s)) (u ⟶ spot f (previous h)) (u ⟶ spot f (previous g))) (sym here) c) in
+            sound .spans g (r .1) s (b .has) (b .rim) later (not-right (spot f g) (spot f (next g)) (spot f (next s)) (d .0), not-right (spot f g) (spot f (next s)) (spot f (previous g)) (d .1))),
+        clears s g gs v b (inr later) here (r .2),
+      )
 
   -- from the first corner
   first-fan : (s : HalfEdgeId) (gs : List HalfEdgeId) (v : Point) → Starts f s → spot f s ≡ v → Round-on f Left s gs → Fan quadratics Left (row f Left v s gs)
-  first-fan s gs v b is r =
-      ((subst (λ u. Positive (veer quadratics Left (u ⟶ spot f (next s)) (u ⟶ spot f (previous s)))) is (corner-turns f sound s (b .has) Left), sweeps s gs v (b .has) is r),
-       clears s s gs v b (inl refl) is r)
+  first-fan s gs v b is r = (
+    (subst (λ u. Positive (veer quadratics Left (u ⟶ spot f (next s)) (u ⟶ spot f (previous s)))) is (corner-turns f sound s (b .has) Left), sweeps s gs v (b .has) is r),
+    clears s s gs v b (inl refl) is r,
+  )
 
   row-back : (h g : HalfEdgeId) (gs : List HalfEdgeId) (v : Point) → Has f h → Has f g → on f h ≡ Some g → row f Left v h (g ∷ gs) ≡ (v ⟶ spot f (next h)) ∷ row f Left v g gs
   row-back h g gs v w x e = ap (λ c. (v ⟶ spot f (next h)) ∷ (v ⟶ f .point c) ∷ fars f Left v (g ∷ gs)) (shared-ray Left h g w x e)
@@ -112,7 +115,7 @@ module _ (f : Surface) (sound : Sound f) where
   both-ways h [] hs v w is r l = left-fan h hs v w is l
   both-ways h (g ∷ gs) hs v w is r l =
       subst (λ q. Fan quadratics Left (reverseAux (fars f Right v gs) q)) (row-back g h hs v (r .1) w (r .0))
-        (both-ways g gs (h ∷ hs) v (r .1) (same-spot Right h g v w (r .1) (r .0) is) (r .2) (r .0, w, l))
+      (both-ways g gs (h ∷ hs) v (r .1) (same-spot Right h g v w (r .1) (r .0) is) (r .2) (r .0, w, l))
 
   pub round-fan : (t : Side) (h : HalfEdgeId) (gs : List HalfEdgeId) (v : Point) → Has f h → spot f h ≡ v → Round-on f t h gs → Fan quadratics t (row f t v h gs)
   round-fan Left h gs v w is r = left-fan h gs v w is r

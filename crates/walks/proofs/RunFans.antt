@@ -36,7 +36,7 @@ run-end t e ends = refl
 
 run-next : (t : Side) (e : Point) {p q : Portal Number} {ps : List (Portal Number)} {rs : List Point} → Run quadratics t e p (q ∷ ps) rs
     → (Keeps quadratics (other t) p q × (rs ≡ (end t p .point ⟶ end t q .point) ∷ []))
-      ⊎ ((rs′ : List Point) × Keeps quadratics t p q × Run quadratics t e q ps rs′ × (rs ≡ (end t p .point ⟶ end (other t) q .point) ∷ rs′))
+    ⊎ ((rs′ : List Point) × Keeps quadratics t p q × Run quadratics t e q ps rs′ × (rs ≡ (end t p .point ⟶ end (other t) q .point) ∷ rs′))
 run-next t e (leaves k) = inl (k, refl)
 run-next t e (goes-on {rs = rs} k r) = inr (rs, k, r, refl)
 
@@ -65,7 +65,7 @@ module _ (f : Surface) (sound : Sound f) where
         let here : end t (portal-of f c) .point ≡ v = ap (λ x. x .point) (end-at f t c) ∙ ap (f .point) (same-end f sound t c k) ∙ is in
         let i = inside-sector u e finish (after t c) v (after-triangle t c ∙ walk) is t in
         subst (λ l. Fan quadratics t (front ++ ((v ⟶ spot f (near t (after t c))) ∷ l))) (sym (run-end t e run ∙ ap (λ x. (x ⟶ e) ∷ []) here))
-          (fan-last quadratic-ring t front (v ⟶ spot f (near t (after t c))) (v ⟶ spot f (far t (after t c))) (v ⟶ e) (fan [] tt) (i .0) (i .1))
+        (fan-last quadratic-ring t front (v ⟶ spot f (near t (after t c))) (v ⟶ spot f (far t (after t c))) (v ⟶ e) (fan [] tt) (i .0) (i .1))
     run-fan t c (d ∷ w) v front rs k walk r is fan run =
         let here : end t (portal-of f c) .point ≡ v = ap (λ x. x .point) (end-at f t c) ∙ ap (f .point) (same-end f sound t c k) ∙ is in
         let ways = goes-on-round f sound c d w k (walk .0) (walk .1) r in
@@ -74,7 +74,7 @@ module _ (f : Surface) (sound : Sound f) where
         elim (run-next t e run) [
           | inl out ↦
               let there : end t (portal-of f d) .point ≡ spot f (far t (after t c)) =
-                  ap (λ x. x .point) (end-at f t d) ∙ ap (spot f) (leaves-by t c d (kept-round f sound (other t) c d k ways (out .0))) in
+              ap (λ x. x .point) (end-at f t d) ∙ ap (spot f) (leaves-by t c d (kept-round f sound (other t) c d k ways (out .0))) in
               subst (λ l. Fan quadratics t (front ++ (n ∷ l))) (sym (out .1 ∙ ap (λ x. (x ⟶ end t (portal-of f d) .point) ∷ []) here ∙ ap (λ x. (v ⟶ x) ∷ []) there)) (fan [] tt)
           | inr more ↦
               let on : before t d ≡ after t c = kept-round f sound t c d k ways (more .1) in
@@ -82,14 +82,14 @@ module _ (f : Surface) (sound : Sound f) where
               let shared : spot f (far t (after t c)) ≡ spot f (near t (after t d)) = ap (λ h. spot f (far t h)) (sym on) ∙ ap (f .point) (same-far-end f sound t d kd) in
               let there : end (other t) (portal-of f d) .point ≡ spot f (near t (after t d)) = ap (λ x. x .point) (far-end-at f t d) ∙ ap (f .point) (same-far-end f sound t d kd) in
               let rest : Fan quadratics t ((front ++ (n ∷ [])) ++ (m ∷ more .0)) =
-                  run-fan t d w v (front ++ (n ∷ [])) (more .0) kd (walk .2) (reduced-tail c (d ∷ w) r) (ap (f .point) (sym (same-end f sound t d kd)) ∙ ap (spot f) on ∙ is)
-                    (λ gs round.
-                      let all : Fan quadratics t (front ++ row f t v (after t c) (after t d ∷ gs)) =
-                          fan (after t d ∷ gs) (subst (λ h. Follows f t h (after t d)) on (goes-round f sound t d kd), after-within f sound t d kd, round) in
-                      subst (Fan quadratics t) (sym (append-assoc front (n ∷ []) (row f t v (after t d) gs))) (subst (λ x. Fan quadratics t (front ++ (n ∷ (v ⟶ x) ∷ fars f t v (after t d ∷ gs)))) shared all))
-                    (more .2) in
+              run-fan t d w v (front ++ (n ∷ [])) (more .0) kd (walk .2) (reduced-tail c (d ∷ w) r) (ap (f .point) (sym (same-end f sound t d kd)) ∙ ap (spot f) on ∙ is)
+              (λ gs round.
+              let all : Fan quadratics t (front ++ row f t v (after t c) (after t d ∷ gs)) =
+              fan (after t d ∷ gs) (subst (λ h. Follows f t h (after t d)) on (goes-round f sound t d kd), after-within f sound t d kd, round) in
+              subst (Fan quadratics t) (sym (append-assoc front (n ∷ []) (row f t v (after t d) gs))) (subst (λ x. Fan quadratics t (front ++ (n ∷ (v ⟶ x) ∷ fars f t v (after t d ∷ gs)))) shared all))
+              (more .2) in
               subst (λ l. Fan quadratics t (front ++ (n ∷ l))) (sym (more .3 ∙ ap (λ x. (x ⟶ end (other t) (portal-of f d) .point) ∷ more .0) here ∙ ap (λ x. (v ⟶ x) ∷ more .0) there))
-                (subst (Fan quadratics t) (append-assoc front (n ∷ []) (m ∷ more .0)) rest)
+              (subst (Fan quadratics t) (append-assoc front (n ∷ []) (m ∷ more .0)) rest)
         ]
 
     -- a run with the ray to y before it, where y makes a fan with every row of corners from the portal's end on
@@ -100,12 +100,12 @@ module _ (f : Surface) (sound : Sound f) where
         let v : Point = spot f (before t c) in
         let shared : spot f (far t (before t c)) ≡ spot f (near t (after t c)) = ap (f .point) (same-far-end f sound t c k) in
         let made : Fan quadratics t ((v ⟶ y) ∷ (v ⟶ spot f (near t (after t c))) ∷ rs) =
-            run-fan t c w v ((v ⟶ y) ∷ []) rs k walk r (ap (f .point) (sym (same-end f sound t c k)))
-              (λ gs on. subst (λ x. Fan quadratics t ((v ⟶ y) ∷ (v ⟶ x) ∷ fars f t v (after t c ∷ gs))) shared (fan (after t c ∷ gs) (goes-round f sound t c k, after-within f sound t c k, on)))
-              run in
+        run-fan t c w v ((v ⟶ y) ∷ []) rs k walk r (ap (f .point) (sym (same-end f sound t c k)))
+        (λ gs on. subst (λ x. Fan quadratics t ((v ⟶ y) ∷ (v ⟶ x) ∷ fars f t v (after t c ∷ gs))) shared (fan (after t c ∷ gs) (goes-round f sound t c k, after-within f sound t c k, on)))
+        run in
         let near-end : spot f (near t (after t c)) ≡ end (other t) (portal-of f c) .point = sym (ap (λ x. x .point) (far-end-at f t c) ∙ shared) in
         subst (λ x. Fan quadratics t ((x .point ⟶ y) ∷ (x .point ⟶ end (other t) (portal-of f c) .point) ∷ rs)) (sym (end-at f t c))
-          (subst (λ x. Fan quadratics t ((v ⟶ y) ∷ (v ⟶ x) ∷ rs)) near-end made)
+        (subst (λ x. Fan quadratics t ((v ⟶ y) ∷ (v ⟶ x) ∷ rs)) near-end made)
 
     first-round : (t : Side) (c : Crossing) (w : List Crossing) (s : Point) → Crossed f c → Inside f (triangle-of (c .left)) s → Walk f (triangle-of (c .entered)) w u → Reduced recrossed (c ∷ w) → Round quadratics t s (portal-of f c) (portals f w) e
     first-round t c w s k start walk r =
@@ -113,16 +113,16 @@ module _ (f : Surface) (sound : Sound f) where
         let v : Point = spot f g in
         let i = inside-sector (triangle-of (c .left)) s start g v (before-triangle t c) refl t in
         round t c w s k walk r
-          (λ gs on. fan-first quadratic-ring t (v ⟶ spot f (near t g)) (v ⟶ s) (v ⟶ spot f (far t g)) (fars f t v gs) (round-fan f sound t g gs v (before-within f sound t c k) refl on) (i .0) (i .2))
+        (λ gs on. fan-first quadratic-ring t (v ⟶ spot f (near t g)) (v ⟶ s) (v ⟶ spot f (far t g)) (fars f t v gs) (round-fan f sound t g gs v (before-within f sound t c k) refl on) (i .0) (i .2))
 
     -- d goes on round the other end: a run begins on this side
     later-round : (t : Side) (c d : Crossing) (w : List Crossing) → Crossed f c → Crossed f d → Goes-on (other t) c d → Walk f (triangle-of (d .entered)) w u → Reduced recrossed (d ∷ w) → Round quadratics t (end t (portal-of f c) .point) (portal-of f d) (portals f w) e
     later-round t c d w k kd on walk r =
         let v : Point = spot f (before t d) in
         let y : spot f (near t (before t d)) ≡ end t (portal-of f c) .point =
-            ap (λ h. spot f (near t h)) (leaves-by t c d on) ∙ ap (spot f) (near-far t (after t c)) ∙ ap (f .point) (sym (same-end f sound t c k)) ∙ sym (ap (λ x. x .point) (end-at f t c)) in
+        ap (λ h. spot f (near t h)) (leaves-by t c d on) ∙ ap (spot f) (near-far t (after t c)) ∙ ap (f .point) (sym (same-end f sound t c k)) ∙ sym (ap (λ x. x .point) (end-at f t c)) in
         round t d w (end t (portal-of f c) .point) kd walk r
-          (λ gs round. subst (λ x. Fan quadratics t ((v ⟶ x) ∷ (v ⟶ spot f (far t (before t d))) ∷ fars f t v gs)) y (round-fan f sound t (before t d) gs v (before-within f sound t d kd) refl round))
+        (λ gs round. subst (λ x. Fan quadratics t ((v ⟶ x) ∷ (v ⟶ spot f (far t (before t d))) ∷ fars f t v gs)) y (round-fan f sound t (before t d) gs v (before-within f sound t d kd) refl round))
 
     later-rounds : (c : Crossing) (w : List Crossing) → Crossed f c → Walk f (triangle-of (c .entered)) w u → Reduced recrossed (c ∷ w) → Later-rounds quadratics (portal-of f c) (portals f w) e
     later-rounds c [] k walk r = tt

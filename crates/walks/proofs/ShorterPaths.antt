@@ -49,8 +49,8 @@ module _ (K : OrderedRing) where
         let best = G (less (N .ops) z x) in
         let g : Vec A = best .form in
         subst (λ m. Nn N (measure (less (N .ops) y x) + measure (less (N .ops) z y) - m)) (best .attained)
-          (nn-eq K (two-steps x y z g (measure (less (N .ops) y x)) (measure (less (N .ops) z y)))
-            (nn-add K (G (less (N .ops) y x) .above g (best .among)) (G (less (N .ops) z y) .above g (best .among))))
+        (nn-eq K (two-steps x y z g (measure (less (N .ops) y x)) (measure (less (N .ops) z y)))
+        (nn-add K (G (less (N .ops) y x) .above g (best .among)) (G (less (N .ops) z y) .above g (best .among))))
 
     over : (x y z : Vec A) (r : A) → Nn N (measure (less (N .ops) y x) + (measure (less (N .ops) z y) + r) - (measure (less (N .ops) z x) + r))
     over x y z r = nn-eq K (after-both (measure (less (N .ops) y x)) (measure (less (N .ops) z y)) (measure (less (N .ops) z x)) r) (nn-add K (no-detour x y z) (le-refl K r))

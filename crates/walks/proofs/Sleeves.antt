@@ -32,9 +32,10 @@ module _ (f : Surface) (sound : Sound f) where
 
   ahead : (u : TriangleId) (e : Point) → Inside f u e → (c : Crossing) (w : List Crossing) → Crossed f c → Walk f (triangle-of (c .entered)) w u → Reduced recrossed (c ∷ w) → Ahead quadratics e (portal-of f c) (portals f w)
   ahead u e i c [] k walk r = in-front f sound c k e (inside-left f u e i (c .entered) walk)
-  ahead u e i c (d ∷ w) k walk r =
-      (link f sound c d k (goes-on-round f sound c d w k (walk .0) (walk .1) r),
-       ahead u e i d w (crossed-next f sound c d k (walk .0) (walk .1)) (walk .2) (reduced-tail c (d ∷ w) r))
+  ahead u e i c (d ∷ w) k walk r = (
+    link f sound c d k (goes-on-round f sound c d w k (walk .0) (walk .1) r),
+    ahead u e i d w (crossed-next f sound c d k (walk .0) (walk .1)) (walk .2) (reduced-tail c (d ∷ w) r),
+  )
 
   pub sleeve-of : (t u : TriangleId) (s e : Point) (w : List Crossing) → Joins f t s w u e → Sleeve quadratics s (portals f w) e × FanBound quadratics s (portals f w) e
   sleeve-of t u s e [] j = (tt, tt)
@@ -42,9 +43,10 @@ module _ (f : Surface) (sound : Sound f) where
       let from = j .walk .0 in
       let q = ap (λ x. x .0) from in
       let k : Crossed f c = record { has = omega (arith, j .within); twin = j .walk .1 } in
-      let start : Inside f (triangle-of (c .left)) s = subst (λ x. Inside f x s) (sym from) (j .start) in
-      ((behind c s start, ahead u e (j .finish) c w k (j .walk .2) (j .reduced)),
-       fan-bound f sound u e (j .finish) s c w k start (j .walk .2) (j .reduced))
+      let start : Inside f (triangle-of (c .left)) s = subst (λ x. Inside f x s) (sym from) (j .start) in (
+        (behind c s start, ahead u e (j .finish) c w k (j .walk .2) (j .reduced)),
+        fan-bound f sound u e (j .finish) s c w k start (j .walk .2) (j .reduced),
+      )
 
 pub sleeve-law : SleeveLaw
 sleeve-law f sound t u s e w j = sleeve-of f sound t u s e w j

@@ -66,11 +66,11 @@ module _ (f : Surface) where
       let second = turned-on (spot f (side t 0)) (spot f (side t 1)) (spot f (side t 2)) first in
       let third = turned-on (spot f (side t 1)) (spot f (side t 2)) (spot f (side t 0)) second in
       let turns : Turned (spot f h) (spot f (next h)) (spot f (previous h)) =
-          each t (λ h. Turned (spot f h) (spot f (next h)) (spot f (previous h)))
-            (subst (λ n. Turned (spot f (side t 0)) (spot f n) (spot f (previous (side t 0)))) (sym (side-next t .0)) (subst (λ p. Turned (spot f (side t 0)) (spot f (side t 1)) (spot f p)) (sym (side-previous t .0)) first))
-            (subst (λ n. Turned (spot f (side t 1)) (spot f n) (spot f (previous (side t 1)))) (sym (side-next t .1)) (subst (λ p. Turned (spot f (side t 1)) (spot f (side t 2)) (spot f p)) (sym (side-previous t .1)) second))
-            (subst (λ n. Turned (spot f (side t 2)) (spot f n) (spot f (previous (side t 2)))) (sym (side-next t .2)) (subst (λ p. Turned (spot f (side t 2)) (spot f (side t 0)) (spot f p)) (sym (side-previous t .2)) third))
-            h refl in
+      each t (λ h. Turned (spot f h) (spot f (next h)) (spot f (previous h)))
+      (subst (λ n. Turned (spot f (side t 0)) (spot f n) (spot f (previous (side t 0)))) (sym (side-next t .0)) (subst (λ p. Turned (spot f (side t 0)) (spot f (side t 1)) (spot f p)) (sym (side-previous t .0)) first))
+      (subst (λ n. Turned (spot f (side t 1)) (spot f n) (spot f (previous (side t 1)))) (sym (side-next t .1)) (subst (λ p. Turned (spot f (side t 1)) (spot f (side t 2)) (spot f p)) (sym (side-previous t .1)) second))
+      (subst (λ n. Turned (spot f (side t 2)) (spot f n) (spot f (previous (side t 2)))) (sym (side-next t .2)) (subst (λ p. Turned (spot f (side t 2)) (spot f (side t 0)) (spot f p)) (sym (side-previous t .2)) third))
+      h refl in
       both h turns
     where
       both : (h : HalfEdgeId) → Turned (spot f h) (spot f (next h)) (spot f (previous h)) → (t : Side) → Positive (veer quadratics t (spot f h ⟶ spot f (near t h)) (spot f h ⟶ spot f (far t h)))
@@ -80,9 +80,9 @@ module _ (f : Surface) where
   pub inside-left : (t : TriangleId) (p : Point) → Inside f t p → (h : HalfEdgeId) → triangle-of h ≡ t → Turned (spot f h) (spot f (next h)) p
   inside-left t p i =
       each t (λ h. Turned (spot f h) (spot f (next h)) p)
-        (subst (λ n. Turned (spot f (side t 0)) (spot f n) p) (sym (side-next t .0)) (left-turn _ _ _ (i .first)))
-        (subst (λ n. Turned (spot f (side t 1)) (spot f n) p) (sym (side-next t .1)) (left-turn _ _ _ (i .second)))
-        (subst (λ n. Turned (spot f (side t 2)) (spot f n) p) (sym (side-next t .2)) (left-turn _ _ _ (i .third)))
+      (subst (λ n. Turned (spot f (side t 0)) (spot f n) p) (sym (side-next t .0)) (left-turn _ _ _ (i .first)))
+      (subst (λ n. Turned (spot f (side t 1)) (spot f n) p) (sym (side-next t .1)) (left-turn _ _ _ (i .second)))
+      (subst (λ n. Turned (spot f (side t 2)) (spot f n) p) (sym (side-next t .2)) (left-turn _ _ _ (i .third)))
 
   pub inside-near : (t : TriangleId) (p : Point) → Inside f t p → (h : HalfEdgeId) → triangle-of h ≡ t → (r : Side) → Positive (veer quadratics r (spot f h ⟶ spot f (near r h)) (spot f h ⟶ p))
   inside-near t p i h e Left = inside-left t p i h e

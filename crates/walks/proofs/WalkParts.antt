@@ -78,13 +78,13 @@ module _ (f : Surface) where
         let parts = walk-parted t u v w k in
         let below = walk-within t (arrival t v) v h (parts .0) in
         walk-joined t (arrival t v) u v (c ∷ recrossed c ∷ w) (parts .0)
-          (out .0, out .1, (refl, twin-back (arrival t v) c below (out .0) (out .1), subst (λ x. Walk f x w u) (sym (out .0)) (parts .1)))
+        (out .0, out .1, (refl, twin-back (arrival t v) c below (out .0) (out .1), subst (λ x. Walk f x w u) (sym (out .0)) (parts .1)))
 
     back-onto : (t u z : TriangleId) (w onto : List Crossing) → t .0 < f .F → Walk f t w u → Walk f t onto z → Walk f u (reverseAux (map recrossed w) onto) z
     back-onto t u z [] onto h k l = subst (λ x. Walk f x onto z) k l
     back-onto t u z (c ∷ w) onto h k l =
         back-onto (triangle-of (c .entered)) u z w (recrossed c ∷ onto) (entered-below t c h (k .0) (k .1)) (k .2)
-          (refl, twin-back t c h (k .0) (k .1), subst (λ x. Walk f x onto z) (sym (k .0)) l)
+        (refl, twin-back t c h (k .0) (k .1), subst (λ x. Walk f x onto z) (sym (k .0)) l)
 
     pub walk-back : (t u : TriangleId) (w : List Crossing) → t .0 < f .F → Walk f t w u → Walk f u (way-back w) t
     walk-back t u w h k = back-onto t u t w [] h k refl

@@ -58,13 +58,14 @@ module _ (f : Surface) (sound : Sound f) where
       ∙ ap (λ p. reverseAux (map back-portal (portals f w)) (p ∷ portals f onto)) (portal-back t c (triangle-of (c .entered)) h (k .0, k .1, refl))
 
 pub back-law : BackLaw
-back-law f sound t u s e w j =
-    ( record {
-        within = walk-within f (sound .twins) t u w (j .within) (j .walk);
-        start = j .finish;
-        walk = walk-back f (sound .twins) t u w (j .within) (j .walk);
-        finish = j .start;
-        reduced = reduced-back w (j .reduced);
-      },
-      λ bs taut. subst (λ ps. TautString quadratics e ps s (backward-bends bs)) (sym (portals-onto f sound t u w [] (j .within) (j .walk)))
-        (backwards-here .string s e (portals f w) bs (sleeve-of f sound t u s e w j .0) taut) )
+back-law f sound t u s e w j = (
+  record {
+    within = walk-within f (sound .twins) t u w (j .within) (j .walk);
+    start = j .finish;
+    walk = walk-back f (sound .twins) t u w (j .within) (j .walk);
+    finish = j .start;
+    reduced = reduced-back w (j .reduced);
+  },
+  λ bs taut. subst (λ ps. TautString quadratics e ps s (backward-bends bs)) (sym (portals-onto f sound t u w [] (j .within) (j .walk)))
+      (backwards-here .string s e (portals f w) bs (sleeve-of f sound t u s e w j .0) taut),
+)
