@@ -1,14 +1,14 @@
 -- A path that leaves out portals is no longer (`fewer-places`): under a gauge the straight step measures no more than two steps over a place between (`no-detour`).
-use mathlib.Core.Path.{_≡_, refl, sym, ap, subst}
+use mathlib.Core.Path.{_≡_, refl, subst}
 use mathlib.Core.List.{List, [], _∷_, _++_}
-use Prim.Native.Nat.{ℕ, _≤_ as _≤ⁿ_}
+use Prim.Native.Nat.{ℕ}
 use Rattle.algebra.specs.Arithmetic.{Ops, Arithmetic, Nn}
 use Rattle.algebra.specs.Plane.{Vec, less, dot}
 use Rattle.algebra.proofs.RingSolver.{CommRing, _:+_, _:-_, _:=_, E, ring}
 use Rattle.algebra.proofs.OrderedRing.{OrderedRing, base, nn-eq, nn-add, le-refl}
 use Rattle.algebra.proofs.PlaneSolver.{ringV}
 use Rattle.taut.specs.Sleeve.{Portal}
-use Rattle.taut.specs.Lengths.{Gauge, along, times-over, place, Marks, places}
+use Rattle.taut.specs.Lengths.{Gauge, along, place, Marks, places}
 
 -- the first list is the second with some of its members left out
 pub data Part-of {X : Type 0} : List X → List X → Type 0 where

@@ -1,18 +1,17 @@
 -- No path of any word of crossings that is homotopic to a reduced walk is shorter than the walk's taut string (`shortest-of-all`).
 -- The walk is that word's reduction, so its portals are some of the word's, and a path that leaves out portals is no longer.
-use mathlib.Core.Path.{_≡_, refl, sym, ap, _∙_, subst}
+use mathlib.Core.Path.{_≡_, sym, ap, _∙_, subst}
 use mathlib.Core.List.{List, [], _∷_, _++_}
 use Rattle.std.proofs.shelf.Lists.{append-assoc, append-nil}
-use Rattle.algebra.specs.Number.{Number, quadratics, _⊛_}
+use Rattle.algebra.specs.Number.{quadratics, _⊛_}
 use Rattle.algebra.proofs.OrderedRing.{le-trans}
 use Rattle.algebra.proofs.Quadratics.{quadratic-ring}
 use Rattle.words.specs.declared.sorts.Crossing.{Crossing}
 use Rattle.words.specs.Sorts.{recrossed, same-crossing}
-use Rattle.words.specs.Words.{Reduced, Homotopic, added, adding, reduction}
+use Rattle.words.specs.Words.{added, adding, reduction}
 use Rattle.words.proofs.LastLetters.{cancels, appends, way}
 use Rattle.words.proofs.EqualReductions.{reduction-only}
 use Rattle.words.proofs.LawfulSorts.{crossing-lawful}
-use Rattle.taut.specs.Sleeve.{Portal}
 use Rattle.taut.specs.Lengths.{whole, times-over}
 use Rattle.taut.specs.Laws.{string-length, path-length}
 use Rattle.taut.proofs.AtNumbers.{shortness-here}

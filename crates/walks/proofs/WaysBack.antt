@@ -2,19 +2,17 @@
 use mathlib.Core.Path.{_≡_, refl, sym, ap, _∙_, subst}
 use mathlib.Core.List.{List, [], _∷_, _++_, map, map-append, reverse, reverseAux, reverseAux-eq, reverse-append, reverse-reverse}
 use Prim.Native.Nat.{_<_}
-use native.Mathlib.Omega.{arith}
 use Rattle.std.proofs.shelf.Lists.{append-assoc}
 use Rattle.base.specs.declared.ids.TriangleId.{TriangleId}
 use Rattle.base.specs.Ids.{triangle-of, next}
-use Rattle.algebra.specs.Number.{Number, quadratics}
+use Rattle.algebra.specs.Number.{quadratics}
 use Rattle.words.specs.declared.sorts.Crossing.{Crossing}
 use Rattle.words.specs.Sorts.{recrossed}
 use Rattle.words.specs.Words.{Reduced}
-use Rattle.taut.specs.Sleeve.{Portal}
 use Rattle.taut.specs.TautString.{TautString}
-use Rattle.taut.specs.Backwards.{back-portal, backward, backward-bends}
+use Rattle.taut.specs.Backwards.{back-portal, backward-bends}
 use Rattle.taut.proofs.AtNumbers.{backwards-here}
-use Rattle.mesh.specs.Surface.{Surface, Has}
+use Rattle.mesh.specs.Surface.{Surface}
 use Rattle.mesh.specs.Sound.{Sound}
 use Rattle.walks.specs.Walks.{Walk, way-back, portal-of, portals}
 use Rattle.walks.specs.Laws.{BackLaw}
