@@ -7,15 +7,16 @@ use native.Mathlib.Omega.{arith}
 use Rattle.std.specs.declared.option.Option.the-variants.{Some}
 use Rattle.base.specs.declared.ids.TriangleId.{TriangleId}
 use Rattle.base.specs.Ids.{triangle-of}
+use Rattle.geometry.specs.Plane.{Point}
 use Rattle.words.specs.declared.sorts.Crossing.{Crossing}
 use Rattle.words.specs.Sorts.{recrossed, same-crossing}
 use Rattle.words.specs.Words.{Homotopic, added, adding, reduction}
 use Rattle.words.proofs.LastLetters.{cancels, appends, way}
-use Rattle.words.proofs.EqualReductions.{equal-reductions}
+use Rattle.words.proofs.EqualReductions.{reduced-reduction, equal-reductions}
 use Rattle.words.proofs.LawfulSorts.{crossing-lawful}
 use Rattle.mesh.specs.Surface.{Surface, Has}
 use Rattle.mesh.specs.Sound.{Paired, AtEach}
-use Rattle.walks.specs.Walks.{Walk, arrival, way-back}
+use Rattle.walks.specs.Walks.{Walk, arrival, way-back, Inside, Joins}
 use Rattle.walks.specs.Laws.{WalkLaws}
 
 module _ (f : Surface) where
@@ -52,6 +53,9 @@ module _ (f : Surface) where
 
   pub walk-reduced : (t u : TriangleId) (w : List Crossing) → Walk f t w u → Walk f t (reduction recrossed same-crossing w) u
   walk-reduced t u w h = walk-adding t t u [] w refl h
+
+  pub walk-joins : (t u : TriangleId) (s e : Point) (w : List Crossing) → t .0 < f .F → Inside f t s → Walk f t w u → Inside f u e → Joins f t s (reduction recrossed same-crossing w) u e
+  walk-joins t u s e w h start k finish = record { within = h; start = start; walk = walk-reduced t u w k; finish = finish; reduced = reduced-reduction recrossed same-crossing crossing-lawful w }
 
   pub walk-homotopic : (t u u′ : TriangleId) (v w : List Crossing) → Homotopic recrossed v w → Walk f t v u → Walk f t w u′ → u ≡ u′
   walk-homotopic t u u′ v w e h k =
@@ -99,6 +103,7 @@ walk-laws f sound = record {
   spur-out = walk-spur-out f;
   one-more = walk-one-more f;
   reduced = walk-reduced f;
+  joins = walk-joins f;
   homotopic = walk-homotopic f;
   walked-back = walk-back f (sound .twins);
 }

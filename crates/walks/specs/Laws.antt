@@ -7,6 +7,7 @@
 --   spur-out     so does a spur taken out
 --   one-more     a crossing added to a walk, with which its last crossing may cancel, makes a walk
 --   reduced      the reduction of a walk is a walk between the same triangles
+--   joins        .. and joins terminals that lie strictly inside these
 --   homotopic    homotopic walks from one triangle end in one triangle
 --   walked-back  the way back is a walk
 -- WalkLaws     all that on every sound surface
@@ -34,7 +35,7 @@ use Rattle.taut.specs.Laws.{string-length, path-length}
 use Rattle.taut.specs.Backwards.{backward-bends}
 use Rattle.mesh.specs.Surface.{Surface}
 use Rattle.mesh.specs.Sound.{Sound}
-use Rattle.walks.specs.Walks.{Walk, arrival, way-back, portals, Joins, TautOf}
+use Rattle.walks.specs.Walks.{Walk, arrival, way-back, portals, Inside, Joins, TautOf}
 
 pub record Walking (f : Surface) : Type 0 where
   pub arrives : (t u : TriangleId) (w : List Crossing) → Walk f t w u → arrival t w ≡ u
@@ -45,6 +46,7 @@ pub record Walking (f : Surface) : Type 0 where
   pub spur-out : (t u : TriangleId) (v w : List Crossing) (c : Crossing) → Walk f t (v ++ c ∷ recrossed c ∷ w) u → Walk f t (v ++ w) u
   pub one-more : (t m u : TriangleId) (w : List Crossing) (c : Crossing) → Walk f t w m → Walk f m (c ∷ []) u → Walk f t (added recrossed same-crossing w c) u
   pub reduced : (t u : TriangleId) (w : List Crossing) → Walk f t w u → Walk f t (reduction recrossed same-crossing w) u
+  pub joins : (t u : TriangleId) (s e : Point) (w : List Crossing) → t .0 < f .F → Inside f t s → Walk f t w u → Inside f u e → Joins f t s (reduction recrossed same-crossing w) u e
   pub homotopic : (t u u′ : TriangleId) (v w : List Crossing) → Homotopic recrossed v w → Walk f t v u → Walk f t w u′ → u ≡ u′
   pub walked-back : (t u : TriangleId) (w : List Crossing) → t .0 < f .F → Walk f t w u → Walk f u (way-back w) t
 
