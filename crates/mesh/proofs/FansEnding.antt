@@ -35,26 +35,26 @@ module _ (f : Surface) (pairs : AtEach f Paired) where
   walk-ends : (left : ℕ) (s h : HalfEdgeId) (m₀ m : List Bool) → unmarked m < left → 3 * f .F ≤ length m → Walking f s 0 m₀ m h 0 → Ends f h
   walk-ends zero s h m₀ m few room w = absurd (omega arith)
   walk-ends (suc left) s h m₀ m few room w =
-    elim (known (on f h)) [
-      inl z ↦ edge-ahead z
-    | inr go ↦
-      let d = go .0 in
-      let there : d .0 < length m = omega (arith, on-within f pairs h d (w .has) (go .1)) in
-      let fewer-left : unmarked (set m (d .0) true) < unmarked m = fewer m (d .0) there (w .fresh d (go .1)) in
-      ahead (go .1)
-        (walk-ends left s d m₀ (set m (d .0) true) (omega arith) (simp length-set room)
-          (step f pairs s 0 m₀ m h 0 w d 0 (go .1) there (inl refl) (omega arith) (λ c. omega arith)))
-    ]
+      elim (known (on f h)) [
+        | inl z ↦ edge-ahead z
+        | inr go ↦
+            let d = go .0 in
+            let there : d .0 < length m = omega (arith, on-within f pairs h d (w .has) (go .1)) in
+            let fewer-left : unmarked (set m (d .0) true) < unmarked m = fewer m (d .0) there (w .fresh d (go .1)) in
+            ahead (go .1)
+            (walk-ends left s d m₀ (set m (d .0) true) (omega arith) (simp length-set room)
+            (step f pairs s 0 m₀ m h 0 w d 0 (go .1) there (inl refl) (omega arith) (λ c. omega arith)))
+      ]
 
   first-ends : (s : HalfEdgeId) → Starts f s → Ends f s
   first-ends s b =
-    let m = replicate (3 * f .F) false in
-    let room : s .0 < length m = simp length-replicate (b .has) in
-    walk-ends (1 + unmarked (set m (s .0) true)) s s (set m (s .0) true) (set m (s .0) true) (omega arith) (simp (length-set, length-replicate) (omega arith))
+      let m = replicate (3 * f .F) false in
+      let room : s .0 < length m = simp length-replicate (b .has) in
+      walk-ends (1 + unmarked (set m (s .0) true)) s s (set m (s .0) true) (set m (s .0) true) (omega arith) (simp (length-set, length-replicate) (omega arith))
       (begin f pairs s 0 m b (record { unmarked = none-marked (3 * f .F) s; backs = λ x d k t. absurd (none-marked (3 * f .F) x k) }) room)
 
 pub fans-end : FansEnd
 fans-end f sound h w =
-  let o = opens-fan f (sound .twins) w (sound .fans h w) in
-  let first = first-ends f (sound .twins) (o .0) (o .1) in
-  elim (o .2) [ inl same ↦ subst (Ends f) (sym same) first | inr l ↦ later-ends f (sound .twins) first l ]
+    let o = opens-fan f (sound .twins) w (sound .fans h w) in
+    let first = first-ends f (sound .twins) (o .0) (o .1) in
+    elim (o .2) [ inl same ↦ subst (Ends f) (sym same) first | inr l ↦ later-ends f (sound .twins) first l ]

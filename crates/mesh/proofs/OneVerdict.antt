@@ -17,7 +17,7 @@ use Rattle.mesh.specs.Verdict.{Fails, limits, range, corner, turn, twin, fan, 
 -- the refusal of lists by its number and place
 numbered : Lists → ℕ → ℕ → Refusal
 numbered l n p =
-  getD (MeshLimits ∷ VertexRange (vertex p) ∷ CornerRange (half-edge p) ∷ TriangleTurn (triangle p) ∷ TwinMismatch (half-edge p)
+    getD (MeshLimits ∷ VertexRange (vertex p) ∷ CornerRange (half-edge p) ∷ TriangleTurn (triangle p) ∷ TwinMismatch (half-edge p)
     ∷ ClosedFan (half-edge p) (listed l .corner (half-edge p)) ∷ FullTurn (half-edge p) (listed l .corner (half-edge p)) ∷ []) (n - 1) MeshLimits
 
 is-numbered : (l : Lists) {e : Refusal} → Fails l e → e ≡ numbered l (number e) (place e)
@@ -48,8 +48,8 @@ level a b p q (inr x) (inr y) = (x .0, omega (arith, x .1, y .1))
 
 pub one-refusal : (l : Lists) (d e : Refusal) → Refused l d → Refused l e → d ≡ e
 one-refusal l d e a b =
-  let same = level (number d) (number e) (place d) (place e) (a .first e (b .fails)) (b .first d (a .fails)) in
-  is-numbered l (a .fails) ∙ ap (λ n. numbered l n (place d)) (same .0) ∙ ap (λ p. numbered l (number e) p) (same .1) ∙ sym (is-numbered l (b .fails))
+    let same = level (number d) (number e) (place d) (place e) (a .first e (b .fails)) (b .first d (a .fails)) in
+    is-numbered l (a .fails) ∙ ap (λ n. numbered l n (place d)) (same .0) ∙ ap (λ p. numbered l (number e) p) (same .1) ∙ sym (is-numbered l (b .fails))
 
 pub verdicts-agree : VerdictsAgree
 verdicts-agree l (Ok x) (Ok y) a b = refl

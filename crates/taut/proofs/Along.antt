@@ -3,14 +3,14 @@
 use mathlib.Core.Path.{_≡_, refl, sym, ap, _∙_}
 use mathlib.Core.Logic.{inl, inr}
 use Rattle.algebra.specs.Arithmetic.{Ops, OrderLaws, Arithmetic, Nn}
-use Rattle.algebra.specs.Plane.{Vec, _⊗_}
-use Rattle.algebra.proofs.RingSolver.{CommRing, :0, :1, _:+_, _:-_, _:*_, :-_, _:=_, order, nil-mul, neg-nil, ring}
+use Rattle.algebra.specs.Plane.{Vec, less, _⊗_, _⟶_ as _⇢_}
+use Rattle.algebra.proofs.RingSolver.{CommRing, :0, :1, _:+_, _:-_, _:*_, :-_, _:=_, E, nil-mul, neg-nil, ring, sub-nil}
 use Rattle.algebra.proofs.OrderedRing.{OrderedRing, base, pos-eq, nn-eq, nn-split, pos-cancel, nn-cancel, signs, nil-cancel}
-use Rattle.algebra.proofs.PlaneSolver.{same-vector}
+use Rattle.algebra.proofs.PlaneSolver.{_:×_, ringV, same-vector}
 use Rattle.taut.specs.declared.Side.{Side}
 use Rattle.taut.specs.declared.Side.the-variants.{Left, Right}
-use Rattle.taut.specs.Sleeve.{veer}
-use Rattle.taut.specs.Fan.{origin}
+use Rattle.taut.specs.Sleeve.{other, veer}
+use Rattle.taut.specs.Fan.{origin, opposite}
 use Rattle.taut.proofs.Veer.{pluecker, between}
 
 module _ (K : OrderedRing) where
@@ -64,3 +64,14 @@ module _ (K : OrderedRing) where
   axes Right u h = same-vector R
       (ring R 2 (λ a b. a := a :* :1 :- b :* :0) refl (u .x) (u .y) ∙ h (record { x = 𝟘; y = 𝟙 }))
       (ring R 2 (λ a b. b := :- (a :* :0 :- b :* :1)) refl (u .x) (u .y) ∙ ap (N .ops .neg) (h (record { x = 𝟙; y = 𝟘 })) ∙ neg-nil R)
+
+  -- turned about, a direction lies on the other side
+  pub flipped : (t : Side) (a h : Vec A) → veer N t a h ≡ veer N (other t) a (opposite N h)
+  unfolding _⊗_
+  flipped Left = ringV R 2 0 (λ a h. a :× h := less E (record { x = :0; y = :0 }) h :× a) refl
+  flipped Right = ringV R 2 0 (λ a h. h :× a := a :× less E (record { x = :0; y = :0 }) h) refl
+
+  -- a step between two points that differ goes somewhere
+  pub goes-somewhere : (s w : Vec A) → ¬ (s ≡ w) → ¬ ((_⇢_ N s w) ≡ origin N)
+  unfolding _⇢_
+  goes-somewhere s w ne is = ne (sym (same-vector R (sub-nil R (w .x) (s .x) (ap (λ u. u .x) is)) (sub-nil R (w .y) (s .y) (ap (λ u. u .y) is))))

@@ -1,4 +1,4 @@
--- The funnel whose apex is an end of the present portal, with the portals that share it. A new end sees the apex (`round-arm`), turns there strictly to its side (`yo`, the one use of the fan bound),
+-- The funnel whose apex is an end of the present portal, with the portals that share it. A new end sees the apex (`round-arm`), turns there strictly to its side (`turns-strictly`, the one use of the fan bound),
 -- and either the apex stays an end (`stay`) or it is left behind (`leave`).
 use mathlib.Core.Path.{_≡_, sym, ap, _∙_, subst}
 use mathlib.Core.List.{List, [], _∷_, _++_}
@@ -11,7 +11,7 @@ use Rattle.taut.specs.Sleeve.{other, Vertex, Portal, end, veer, Link, Ahead}
 use Rattle.taut.specs.TautString.{Bend, Crosses, Turns, aim}
 use Rattle.taut.specs.Fan.{Clear, Within}
 use Rattle.taut.proofs.Veer.{swap, in-order′, cyc, from-apex, to-apex, about}
-use Rattle.taut.proofs.Portals.{front, ends-zero, starts-zero, crosses}
+use Rattle.taut.proofs.Portals.{ends-zero, starts-zero, crosses}
 use Rattle.taut.proofs.Thread.{Thread}
 use Rattle.taut.proofs.FanLemma.{fan}
 use Rattle.taut.proofs.Runs.{rays, sweep}
@@ -58,7 +58,7 @@ module _ (K : OrderedRing) (e : Vec (K .numbers .carrier)) where
     First-beside [] = Unit {0}
     First-beside (q ∷ qs) = Beside q
 
-    module _ (r y : Vec A) (yr : Pos (veer N s (y ⟶ v) (r ⟶ v))) (ro : Pos (veer N s (r ⟶ v) o)) (yo : Pos (veer N s (y ⟶ v) o)) where
+    module _ (r y : Vec A) (yr : Pos (veer N s (y ⟶ v) (r ⟶ v))) (ro : Pos (veer N s (r ⟶ v) o)) (turns-strictly : Pos (veer N s (y ⟶ v) o)) where
       crosses-round : (q : Portal A) → Beside q → Crosses N r v q → Crosses N y v q
       crosses-round q h c =
           let k : Vec A = end (other s) q .point in
@@ -84,7 +84,7 @@ module _ (K : OrderedRing) (e : Vec (K .numbers .carrier)) where
     pub first-round : First-beside s m bs rest
     pub arm : Arm K e (record { side = s; vertex = m } ∷ bs) rest (other s) (end (other s) p .point) [] pre
     pub turns : Turns N s (end (other s) p .point) (m .point) (aim N e bs)
-    pub inn : Within N s (m .point ⟶ aim N e bs) (m .point ⟶ end (other s) p .point) (rays K e s (m .point) p ps h)
+    pub in-run : Within N s (m .point ⟶ aim N e bs) (m .point ⟶ end (other s) p .point) (rays K e s (m .point) p ps h)
 
   -- a string without bends does not end where it starts
   abbrev pub Apart : Vec A → List (Bend A) → Type 0
@@ -102,26 +102,26 @@ module _ (K : OrderedRing) (e : Vec (K .numbers .carrier)) where
     abbrev r : Vec A
     r = end (other s) p .point
 
-    abbrev vv : Vec A
-    vv = m .point
+    abbrev apex : Vec A
+    apex = m .point
 
-    fr′ : Pos (veer N s (y ⟶ r) (y ⟶ vv))
+    fr′ : Pos (veer N s (y ⟶ r) (y ⟶ apex))
     fr′ = subst (λ k. Pos (veer N s (y ⟶ r) (y ⟶ k .point))) (f .is) fr
 
-    yr : Pos (veer N s (y ⟶ vv) (r ⟶ vv))
-    yr = pos-eq K (to-apex K s y r vv) fr′
+    yr : Pos (veer N s (y ⟶ apex) (r ⟶ apex))
+    yr = pos-eq K (to-apex K s y r apex) fr′
 
     -- the one use of the fan bound
-    yo : Turns N s y vv (aim N e (bs))
-    yo = pos-eq K (sym (about K s y vv (vv ⟶ aim N e (bs)))) (fan K s (vv ⟶ y) (vv ⟶ aim N e (bs)) (vv ⟶ r) (rays K e s vv p ps h)
-        (pos-eq K (from-apex K s y r vv) fr′) (sweep K e s vv p ps h (ap (λ k. k .point) (f .is)))
-        (subst (λ k. Clear N s (k .point ⟶ y) (k .point ⟶ r) (rays K e s (k .point) p ps h)) (f .is) cl) (f .inn) (pos-eq K (about K s r vv (vv ⟶ aim N e (bs))) (f .turns)))
+    turns-strictly : Turns N s y apex (aim N e (bs))
+    turns-strictly = pos-eq K (sym (about K s y apex (apex ⟶ aim N e (bs)))) (fan K s (apex ⟶ y) (apex ⟶ aim N e (bs)) (apex ⟶ r) (rays K e s apex p ps h)
+        (pos-eq K (from-apex K s y r apex) fr′) (sweep K e s apex p ps h (ap (λ k. k .point) (f .is)))
+        (subst (λ k. Clear N s (k .point ⟶ y) (k .point ⟶ r) (rays K e s (k .point) p ps h)) (f .is) cl) (f .in-run) (pos-eq K (about K s r apex (apex ⟶ aim N e (bs))) (f .turns)))
 
     round-arm : (t : Side) → Arm K e (record { side = s; vertex = m } ∷ bs) (f .rest) t y [] (f .pre)
-    round-arm t = arm-round s (m) (bs) r y yr (f .turns) yo (f .rest) (other s) t (f .first-round) (f .rounds) (f .arm)
+    round-arm t = arm-round s (m) (bs) r y yr (f .turns) turns-strictly (f .rest) (other s) t (f .first-round) (f .rounds) (f .arm)
 
     pub flush-thread : Result y (p ∷ ps) (record { side = s; vertex = m } ∷ bs)
-    flush-thread = record { thread = subst (λ qs. Thread N e y qs (record { side = s; vertex = m } ∷ bs)) (sym (f .all)) (thread-of K e (record { side = s; vertex = m } ∷ bs) (f .rest) s (f .stem) (round-arm s) yo); apart = tt }
+    flush-thread = record { thread = subst (λ qs. Thread N e y qs (record { side = s; vertex = m } ∷ bs)) (sym (f .all)) (thread-of K e (record { side = s; vertex = m } ∷ bs) (f .rest) s (f .stem) (round-arm s) turns-strictly); apart = tt }
 
   -- y is a new end across: the apex stays an end
   pub stay : (s : Side) (p₀ p : Portal A) (ps : List (Portal A)) (h : Ahead N e p ps) (l : Link N p₀ p) (m : Vertex A) (bs : List (Bend A)) (f : Flush s p ps h m bs) → end s p ≡ end s p₀
@@ -135,14 +135,14 @@ module _ (K : OrderedRing) (e : Vec (K .numbers .carrier)) where
         stem = f .stem;
         is = sym kept ∙ f .is;
         all = ap (λ qs. p₀ ∷ qs) (f .all);
-        rounds = ((sym kept ∙ f .is, nn-pos K (yo s p ps h m bs f y fr cl)), f .rounds);
+        rounds = ((sym kept ∙ f .is, nn-pos K (turns-strictly s p ps h m bs f y fr cl)), f .rounds);
         first-round = f .first-round;
         arm = over (crosses K s y (m .point) p₀ (ends-zero K s y (m .point) (end s p₀ .point) (ap (λ k. k .point) (sym kept ∙ f .is))) (starts-zero K (other s) y (m .point))) (round-arm s p ps h m bs f y fr cl (other s));
-        turns = yo s p ps h m bs f y fr cl;
-        inn = w;
+        turns = turns-strictly s p ps h m bs f y fr cl;
+        in-run = w;
       }
 
-  -- y is a new end on the apex's side: the apex is Left behind
+  -- y is a new end on the apex's side: the apex is left behind
   pub leave : (s : Side) (p₀ p : Portal A) (ps : List (Portal A)) (h : Ahead N e p ps) (m : Vertex A) (bs : List (Bend A)) (f : Flush s p ps h m bs) → end (other s) p ≡ end (other s) p₀
       → (fr : Pos (veer N s (end s p₀ .point ⟶ end (other s) p .point) (end s p₀ .point ⟶ end s p .point))) (cl : Clear N s (end s p .point ⟶ end s p₀ .point) (end s p .point ⟶ end (other s) p .point) (rays K e s (end s p .point) p ps h))
       → Open K e s p₀ (p ∷ ps) (record { side = s; vertex = m } ∷ bs) [] []
@@ -158,7 +158,7 @@ module _ (K : OrderedRing) (e : Vec (K .numbers .carrier)) where
         stem = f .stem;
         all = f .all;
         two = record {
-          near = record { arm = round-arm s p ps h m bs f y fr cl s; passes = crosses K s y v₁ p₀ (starts-zero K s y v₁) (nn-eq K (sym (swap K s (y ⟶ v₁) (y ⟶ end (other s) p₀ .point))) (nn-pos K (subst (λ x. Pos (veer N s (y ⟶ x) (y ⟶ v₁))) at fr₁))); convex = yo s p ps h m bs f y fr cl };
+          near = record { arm = round-arm s p ps h m bs f y fr cl s; passes = crosses K s y v₁ p₀ (starts-zero K s y v₁) (nn-eq K (sym (swap K s (y ⟶ v₁) (y ⟶ end (other s) p₀ .point))) (nn-pos K (subst (λ x. Pos (veer N s (y ⟶ x) (y ⟶ v₁))) at fr₁))); convex = turns-strictly s p ps h m bs f y fr cl };
           far = subst (λ x. record { a : Arm K e (record { side = s; vertex = m } ∷ bs) (f .rest) (other s) x [] (f .pre); c : Turns N s x v₁ (aim N e (bs)) } → Wing K e (record { side = s; vertex = m } ∷ bs) (f .rest) (other s) p₀ (f .pre) []) (sym at)
               (λ g. record { arm = g .a; passes = crosses K s (end (other s) p₀ .point) v₁ p₀ (nn-pos K (pos-eq K (cyc K s y (end (other s) p₀ .point) v₁) (subst (λ x. Pos (veer N s (y ⟶ x) (y ⟶ v₁))) at fr₁))) (starts-zero K (other s) (end (other s) p₀ .point) v₁); convex = g .c })
               (record { a = f .arm; c = f .turns });

@@ -9,17 +9,17 @@ use native.Mathlib.Omega.{arith}
 use lib.ListN.{length}
 use Rattle.algebra.specs.Arithmetic.{Ops, OrderLaws, Arithmetic, Nn}
 use Rattle.algebra.specs.Plane.{Vec, less, _⊗_, _⟶_ as _⇢_}
-use Rattle.algebra.proofs.RingSolver.{_:=_, E, order}
+use Rattle.algebra.proofs.RingSolver.{_:=_, E}
 use Rattle.algebra.proofs.OrderedRing.{OrderedRing, base, pos-eq, nn-eq, clash, sign}
 use Rattle.algebra.proofs.PlaneSolver.{_:×_, ringV}
 use Rattle.taut.specs.declared.Side.{Side}
 use Rattle.taut.specs.declared.Side.the-variants.{Left, Right}
-use Rattle.taut.specs.Sleeve.{other, Portal, end, veer, Front, Behind, Keeps, Link, Ahead, Sleeve}
+use Rattle.taut.specs.Sleeve.{other, Portal, end, veer, Front, Behind, Link, Ahead, Sleeve}
 use Rattle.taut.specs.TautString.{Bend, Crosses, Turns, aim, Stretched, TautString}
 use Rattle.taut.specs.Backwards.{back-portal, backward, back-bend, backward-bends}
 use Rattle.taut.proofs.Sides.{which, both}
-use Rattle.taut.proofs.Veer.{swap, back, cyc, at-head}
-use Rattle.taut.proofs.Portals.{keeps, front-from, starts-zero}
+use Rattle.taut.proofs.Veer.{swap, back, at-head}
+use Rattle.taut.proofs.Portals.{keeps, front-from, starts-zero, behind-replaced}
 use Rattle.taut.proofs.Thread.{Thread, arrive, pass, bend-at, Onward, onward-next, onward-of}
 use Rattle.taut.proofs.IndexForm.{to-taut, of-taut}
 
@@ -63,14 +63,8 @@ module _ (K : OrderedRing) where
 
   -- ---- a sleeve read backwards
   link-back : (p q : Portal A) → Link N p q → Link N (back-portal q) (back-portal p)
-  link-back p q (inl k) = inr (sym (k .0), behind-back q (p .right .point) (behind-next Left p q k), λ is. k .2 (sym is))
-    where
-      behind-next : (t : Side) (p q : Portal A) → Keeps N Left p q → Behind N q (p .right .point)
-      behind-next t p q k = subst (λ m. Pos (veer N Right (m .point ⟶ q .right .point) (m .point ⟶ p .right .point))) (sym (k .0)) (k .1)
-  link-back p q (inr k) = inl (sym (k .0), behind-back q (p .left .point) (subst (λ m. Pos (veer N Right (q .left .point ⟶ m .point) (q .left .point ⟶ p .left .point))) (sym (k .0)) (pos-eq K (behind-from (p .left .point) (p .right .point) (q .left .point)) (k .1))), λ is. k .2 (sym is))
-    where
-      behind-from : (f o x : Vec A) → veer N Left (f ⟶ o) (f ⟶ x) ≡ veer N Right (x ⟶ o) (x ⟶ f)
-      behind-from f o x = sym (cyc K Left x f o) ∙ refl
+  link-back p q (inl k) = inr (sym (k .0), behind-back q (p .right .point) (behind-replaced K Right p q k), λ is. k .2 (sym is))
+  link-back p q (inr k) = inl (sym (k .0), behind-back q (p .left .point) (behind-replaced K Left p q k), λ is. k .2 (sym is))
 
   ahead-back : (s e : Vec A) (ps : List (Portal A)) (p : Portal A) (acc : List (Portal A)) → Ahead N e p ps → Ahead N s (back-portal p) acc → Sleeve N e (reverseAux (map back-portal ps) (back-portal p ∷ acc)) s
   ahead-back s e [] p acc h b = (front-back p e h, b)
@@ -152,7 +146,7 @@ module _ (K : OrderedRing) where
           | inr off ↦
               use-skip n (omega arith) (λ qs. Done qs bs (back-portal p ∷ acc) (back-bend b ∷ cs)) (crossed-next v p ps b bs is tu h (pos-eq K (ap -_ (swap K (b .side) (w ⟶ aim N e bs) (w ⟶ o)) ∙ back K (b .side) (w ⟶ o) (w ⟶ aim N e bs)) off) on)
               (λ q qs le₂ is₂ c₂ on₂ h₂.
-                  back-on n (back-portal q ∷ back-portal p ∷ acc) (back-bend b ∷ cs) le₂ on₂ (onward-next N e q qs h₂) refl (bend-back v (aim N e bs) q b (back-portal p ∷ acc) cs at-v c₂ is₂ tu (pass-back v w p acc cs at-v c st))) (onward-next N e p ps h)
+              back-on n (back-portal q ∷ back-portal p ∷ acc) (back-bend b ∷ cs) le₂ on₂ (onward-next N e q qs h₂) refl (bend-back v (aim N e bs) q b (back-portal p ∷ acc) cs at-v c₂ is₂ tu (pass-back v w p acc cs at-v c st))) (onward-next N e p ps h)
         ]
 
   no-bends : (s e : Vec A) (qs : List (Portal A)) → ¬ (s ≡ e) → Stretched N e qs [] s

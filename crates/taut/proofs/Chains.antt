@@ -5,7 +5,7 @@ use mathlib.Core.Path.{_≡_, refl, sym, ap, _∙_, subst}
 use mathlib.Core.List.{List, [], _∷_, _++_}
 use Rattle.algebra.specs.Arithmetic.{Ops, OrderLaws, Arithmetic, Nn}
 use Rattle.algebra.specs.Plane.{Vec, less, _⊗_, _⟶_ as _⇢_}
-use Rattle.algebra.proofs.RingSolver.{CommRing, :0, _:=_, E, order}
+use Rattle.algebra.proofs.RingSolver.{CommRing, :0, _:=_, E}
 use Rattle.algebra.proofs.OrderedRing.{OrderedRing, base, pos-eq, nn-eq, nn-pos, nn-nil, nn-add, nn-cancel, signs}
 use Rattle.algebra.proofs.PlaneSolver.{_:×_, ringV}
 use Rattle.taut.specs.declared.Side.{Side}
@@ -89,7 +89,7 @@ module _ (K : OrderedRing) where
   abbrev pub Faces : Portal A → Vec A → Type 0
   Faces p c = Nn N (veer N Left (p .left .point ⟶ c) (p .right .point ⟶ c))
 
-  -- I3 follows from I1: the order is kept along an edge whose line crosses the portal
+  -- the order is kept along an edge whose line crosses the portal
   pub faces-next : (u c : Vec A) (p : Portal A) → Faces p u → Crosses N u c p → Faces p c
   faces-next u c p f h = nn-eq K (faces-sum K (p .left .point) (p .right .point) u c) (nn-add K f (nn-add K (h Left) (h Right)))
 
@@ -213,7 +213,7 @@ module _ (K : OrderedRing) where
           let below : Passes p₀ (d .point) cs × Last-on t y (d .point) cs = down (d .point) cs fd (h .1) (cv .1) (nn-eq K (sym (to-tail K t (d .point) w y)) (nn-pos K zx)) in
           ((crosses-new c (d .point) (h .0) on, below .0), below .1)
 
-    -- ---- the invariant of one chain: I1 (arm, passes), I2 (convex); I3 follows
+    -- ---- the invariant of one chain
     pub record Wing (p : Portal A) (ps : List (Portal A)) (cs : List (Vertex A)) : Type 0 where
       pub arm : Arm (end t p .point) cs ps
       pub passes : Passes p (end t p .point) cs

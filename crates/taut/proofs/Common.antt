@@ -1,20 +1,19 @@
 -- Two strings that are still at one vertex x. A witness h lies strictly to one side of both pieces, so they are neither opposite nor nothing; x is not in front of the portal;
 -- an end of the portal on a piece's line is not behind x. This stays so while both pass (`onward`), and where they part nothing in front of the portal lies between them (`clear`).
-use mathlib.Core.Path.{_≡_, sym, ap, _∙_, subst}
+use mathlib.Core.Path.{_≡_, sym, subst}
 use mathlib.Core.Logic.{inl, inr}
-use Prim.Native.Nat.{zero}
 use Rattle.algebra.specs.Arithmetic.{Ops, OrderLaws, Arithmetic, Nn}
 use Rattle.algebra.specs.Plane.{Vec, _⟶_ as _⇢_}
-use Rattle.algebra.proofs.RingSolver.{CommRing, order, neg-nil}
-use Rattle.algebra.proofs.OrderedRing.{OrderedRing, base, pos-eq, nn-eq, nn-nil, nn-split, sign, nn-add, nn-cancel, signs}
+use Rattle.algebra.proofs.RingSolver.{CommRing}
+use Rattle.algebra.proofs.OrderedRing.{OrderedRing, base, pos-eq, nn-eq, nn-pos, nn-nil, nn-split, sign, nn-add, signs}
 use Rattle.taut.specs.declared.Side.{Side}
-use Rattle.taut.specs.declared.Side.the-variants.{Left, Right}
 use Rattle.taut.specs.Sleeve.{other, Portal, end, veer}
 use Rattle.taut.specs.TautString.{Crosses}
-use Rattle.taut.proofs.Veer.{swap, back, pluecker, three, between, between-back, between-flip, cross-sum, fore-sum, front-three, front-two}
+use Rattle.taut.proofs.Veer.{swap, back, pluecker, cross-sum, fore-sum}
 use Rattle.taut.proofs.Sides.{both}
-use Rattle.taut.proofs.Along.{vanish, along-pos}
+use Rattle.taut.proofs.Along.{along-pos}
 use Rattle.taut.proofs.Parting.{In-front, Gapless}
+use Rattle.taut.proofs.Facing.{zero-back, zero-side, facing, not-behind, all-faces}
 
 module _ (K : OrderedRing) where
   abbrev N : Arithmetic
@@ -33,15 +32,6 @@ module _ (K : OrderedRing) where
   infix 73 _⟶_
   abbrev _⟶_ : Vec A → Vec A → Vec A
   v ⟶ w = _⇢_ N v w
-
-  pub zero-back : (t : Side) (a b : Vec A) → veer N t a b ≡ 𝟘 → veer N t b a ≡ 𝟘
-  zero-back t a b h = sym (back K t a b) ∙ ap -_ h ∙ neg-nil R
-
-  zero-side : (t s : Side) (a b : Vec A) → veer N t a b ≡ 𝟘 → veer N s a b ≡ 𝟘
-  zero-side Left Left a b h = h
-  zero-side Right Right a b h = h
-  zero-side Left Right a b h = zero-back Left a b h
-  zero-side Right Left a b h = zero-back Right a b h
 
   pub nn-zero : {a : A} → a ≡ 𝟘 → Nn N a
   nn-zero h = nn-eq K (sym h) (nn-nil K)
@@ -72,7 +62,7 @@ module _ (K : OrderedRing) where
       let gd′ : Nn N (veer N t (f ⟶ o) (x ⟶ w′)) = nn-eq K (cross-sum K t x f o (x ⟶ w′)) (nn-add K od′ (cp′ t)) in
       elim (nn-split K ww) [
         | inl p ↦ pos-nil (pos-eq K (pluecker K t (f ⟶ o) (x ⟶ w) (x ⟶ w′) (x ⟶ z)) (search signs depth 8))
-        | inr q ↦ kd .not-neg (pos-eq K (sym (back K t (x ⟶ z) (x ⟶ w′))) (along-pos K (c .side) t (x ⟶ w) (c .h) (x ⟶ w′) (x ⟶ z) (zero-side t (c .side) (x ⟶ w) (x ⟶ w′) (zero-back t (x ⟶ w′) (x ⟶ w) q)) (c .on) (c .on′) dk))
+        | inr q ↦ kd .not-neg (pos-eq K (sym (back K t (x ⟶ z) (x ⟶ w′))) (along-pos K (c .side) t (x ⟶ w) (c .h) (x ⟶ w′) (x ⟶ z) (zero-side K t (c .side) (x ⟶ w) (x ⟶ w′) (zero-back K t (x ⟶ w′) (x ⟶ w) q)) (c .on) (c .on′) dk))
       ]
 
   -- ---- from p to q, which keeps the end on the other side: straight on
@@ -86,53 +76,17 @@ module _ (K : OrderedRing) where
     abbrev z : Vec A
     z = end t q .point
 
+    beside : (w : Vec A) → Crosses N x w p → Nn N (veer N t (x ⟶ o) (x ⟶ w))
+    beside w cp = nn-eq K (swap K t (x ⟶ w) (x ⟶ o)) (cp (other t))
+
     faced : (w w′ : Vec A) → Common x p w w′ → Crosses N x w p → Crosses N x w q → Nn N (veer N t (x ⟶ o) (x ⟶ z))
-    faced w w′ c cp cq =
-        let od : Nn N (veer N t (x ⟶ o) (x ⟶ w)) = nn-eq K (swap K t (x ⟶ w) (x ⟶ o)) (cp (other t)) in
-        let df : Nn N (veer N t (x ⟶ w) (x ⟶ f)) = cp t in
-        let dz : Nn N (veer N t (x ⟶ w) (x ⟶ z)) = cq t in
-        let of : Nn N (veer N t (x ⟶ o) (x ⟶ f)) = c .faces t in
-        let dh : Pos (veer N (c .side) (x ⟶ w) (c .h)) = c .on in
-        elim (nn-split K od) [
-          | inl od⁺ ↦ elim (sign K (veer N t (x ⟶ o) (x ⟶ z))) [
-            | inl g ↦ g
-            | inr n ↦
-                let zo : Pos (veer N t (x ⟶ z) (x ⟶ o)) = pos-eq K (back K t (x ⟶ o) (x ⟶ z)) n in
-                let zf : Pos (veer N t (x ⟶ z) (x ⟶ f)) = pos-eq K (front-two K t x f o z) (search signs) in
-                absurd (pos-nil (pos-eq K (three K t (x ⟶ w) (x ⟶ f) (x ⟶ o) (x ⟶ z)) (search signs depth 8)))
-          ]
-          | inr e ↦
-              let oh : Nn N (veer N (c .side) (x ⟶ o) (c .h)) = c .ahead (other t) (swap K t (x ⟶ w) (x ⟶ o) ∙ e) in
-              let zero : veer N (c .side) (x ⟶ w) (x ⟶ o) ≡ 𝟘 = zero-side t (c .side) (x ⟶ w) (x ⟶ o) (zero-back t (x ⟶ o) (x ⟶ w) e) in
-              nn-cancel K dh (nn-eq K (vanish K (veer N (c .side) (x ⟶ o) (c .h) * veer N t (x ⟶ w) (x ⟶ z)) (veer N (c .side) (x ⟶ w) (x ⟶ o)) (veer N (c .side) (x ⟶ w) (c .h) * veer N t (x ⟶ o) (x ⟶ z)) (veer N t (c .h) (x ⟶ z)) zero (between K (c .side) t (x ⟶ w) (c .h) (x ⟶ o) (x ⟶ z))) (search signs))
-        ]
+    faced w w′ c cp cq = facing K t (c .side) x (x ⟶ w) (c .h) f o z fr (beside w cp) (cp t) (c .faces t) (c .on) (cq t) (c .ahead (other t))
 
     aheads : (w w′ : Vec A) (c : Common x p w w′) → Crosses N x w p → veer N t (x ⟶ w) (x ⟶ z) ≡ 𝟘 → Nn N (veer N (c .side) (x ⟶ z) (c .h))
     aheads w w′ c cp e = elim (sign K (veer N (c .side) (x ⟶ z) (c .h))) [
       | inl g ↦ g
-      | inr n ↦
-          let od : Nn N (veer N t (x ⟶ o) (x ⟶ w)) = nn-eq K (swap K t (x ⟶ w) (x ⟶ o)) (cp (other t)) in
-          let df : Nn N (veer N t (x ⟶ w) (x ⟶ f)) = cp t in
-          let of : Nn N (veer N t (x ⟶ o) (x ⟶ f)) = c .faces t in
-          let dh : Pos (veer N (c .side) (x ⟶ w) (c .h)) = c .on in
-          let hz : Pos (veer N (c .side) (c .h) (x ⟶ z)) = pos-eq K (back K (c .side) (x ⟶ z) (c .h)) n in
-          let zero : veer N (c .side) (x ⟶ w) (x ⟶ z) ≡ 𝟘 = zero-side t (c .side) (x ⟶ w) (x ⟶ z) e in
-          let fz : Nn N (veer N t (x ⟶ f) (x ⟶ z)) = nn-cancel K dh (nn-eq K (vanish K (veer N (c .side) (c .h) (x ⟶ z) * veer N t (x ⟶ w) (x ⟶ f)) (veer N (c .side) (x ⟶ w) (x ⟶ z)) (veer N (c .side) (x ⟶ w) (c .h) * veer N t (x ⟶ f) (x ⟶ z)) (veer N t (x ⟶ f) (c .h)) zero (between-back K (c .side) t (x ⟶ w) (c .h) (x ⟶ z) (x ⟶ f))) (search signs)) in
-          let zo : Nn N (veer N t (x ⟶ z) (x ⟶ o)) = nn-cancel K dh (nn-eq K (vanish K (veer N (c .side) (c .h) (x ⟶ z) * veer N t (x ⟶ o) (x ⟶ w)) (veer N (c .side) (x ⟶ w) (x ⟶ z)) (veer N (c .side) (x ⟶ w) (c .h) * veer N t (x ⟶ z) (x ⟶ o)) (veer N t (c .h) (x ⟶ o)) zero (between-flip K (c .side) t (x ⟶ w) (c .h) (x ⟶ z) (x ⟶ o))) (search signs)) in
-          absurd (pos-nil (pos-eq K (front-three K t x f o z) (search signs depth 8)))
+      | inr n ↦ absurd (not-behind K t (c .side) x (x ⟶ w) (c .h) f o z fr (beside w cp) (cp t) (c .faces t) (c .on) e (nn-pos K (pos-eq K (back K (c .side) (x ⟶ z) (c .h)) n)))
     ]
-
-    both-faces : (q : Portal A) → Nn N (veer N t (x ⟶ end (other t) q .point) (x ⟶ end t q .point)) → (s : Side) → Nn N (veer N s (x ⟶ end (other s) q .point) (x ⟶ end s q .point))
-    both-faces q n = all-faces t q n
-      where
-        all-faces : (t : Side) (q : Portal A) → Nn N (veer N t (x ⟶ end (other t) q .point) (x ⟶ end t q .point)) → (s : Side) → Nn N (veer N s (x ⟶ end (other s) q .point) (x ⟶ end s q .point))
-        all-faces Left q n Left = n
-        all-faces Left q n Right = n
-        all-faces Right q n Left = n
-        all-faces Right q n Right = n
-
-    abbrev Ends : Side → Vec A → Vec A → Type 0
-    Ends s h w = (r : Side) → veer N r (x ⟶ w) (x ⟶ end r q .point) ≡ 𝟘 → Nn N (veer N s (x ⟶ end r q .point) h)
 
     pub onward : (w w′ : Vec A) → Common x p w w′ → Crosses N x w p → Crosses N x w q → Crosses N x w′ p → Crosses N x w′ q → Common x q w w′
     unfolding turned
@@ -141,7 +95,7 @@ module _ (K : OrderedRing) where
       h = c .h;
       on = c .on;
       on′ = c .on′;
-      faces = both-faces q (subst (λ m. Nn N (veer N t (x ⟶ m .point) (x ⟶ z))) (sym kept) (faced w w′ c cp cq));
+      faces = all-faces K t q x (subst (λ m. Nn N (veer N t (x ⟶ m .point) (x ⟶ z))) (sym kept) (faced w w′ c cp cq));
       ahead = both t (λ r. veer N r (x ⟶ w) (x ⟶ end r q .point) ≡ 𝟘 → Nn N (veer N (c .side) (x ⟶ end r q .point) (c .h))) (aheads w w′ c cp) (subst (λ m. veer N (other t) (x ⟶ w) (x ⟶ m .point) ≡ 𝟘 → Nn N (veer N (c .side) (x ⟶ m .point) (c .h))) (sym kept) (c .ahead (other t)));
       ahead′ = both t (λ r. veer N r (x ⟶ w′) (x ⟶ end r q .point) ≡ 𝟘 → Nn N (veer N (c .side) (x ⟶ end r q .point) (c .h))) (aheads w′ w (turned c) cp′) (subst (λ m. veer N (other t) (x ⟶ w′) (x ⟶ m .point) ≡ 𝟘 → Nn N (veer N (c .side) (x ⟶ m .point) (c .h))) (sym kept) (c .ahead′ (other t)));
     }

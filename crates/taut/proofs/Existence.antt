@@ -8,8 +8,8 @@ use native.Mathlib.Omega.{arith}
 use lib.Dec.{T, eqb, eqb→eq, eqb-refl}
 use Rattle.algebra.specs.Arithmetic.{Ops, OrderLaws, Arithmetic, Nn}
 use Rattle.algebra.specs.Plane.{Vec, less, _⊗_, _⟶_ as _⇢_}
-use Rattle.algebra.proofs.RingSolver.{CommRing, :0, _:-_, :-_, _:=_, E, order}
-use Rattle.algebra.proofs.OrderedRing.{OrderedRing, base, pos-eq, nn-eq, clash, nn-pos, sign}
+use Rattle.algebra.proofs.RingSolver.{CommRing, _:-_, :-_, _:=_, E}
+use Rattle.algebra.proofs.OrderedRing.{OrderedRing, base, pos-eq, nn-eq, clash, nn-pos}
 use Rattle.algebra.proofs.PlaneSolver.{_:×_, ringV}
 use Rattle.algebra.specs.declared.Sign.{Sign}
 use Rattle.taut.specs.declared.Side.{Side}
@@ -19,6 +19,7 @@ use Rattle.taut.specs.TautString.{Bend, Crosses, Turns, aim, Stretched, TautSt
 use Rattle.taut.specs.Fan.{Within, opposite, Later-rounds, FanBound}
 use Rattle.taut.specs.Funnel.{Funnel, bends, Signs, next, settle, gain, widen, funnel-at, funnel}
 use Rattle.taut.proofs.Veer.{swap, still, to-apex, behind-is}
+use Rattle.taut.proofs.Along.{flipped}
 use Rattle.taut.proofs.Portals.{front, ends-zero, starts-zero, crosses}
 use Rattle.taut.proofs.Thread.{Thread, arrive, pass, bend-at, Taut}
 use Rattle.taut.proofs.IndexForm.{of-taut}
@@ -48,14 +49,9 @@ module _ (K : OrderedRing) (e : Vec (K .numbers .carrier)) where
   v ⟶ w = _⇢_ N v w
 
   -- ---- the sides of a funnel exchanged
-  flipped : (t : Side) (a h : Vec A) → veer N t a h ≡ veer N (other t) a (opposite N h)
-  unfolding _⊗_
-  flipped Left = ringV R 2 0 (λ a h. a :× h := less E (record { x = :0; y = :0 }) h :× a) refl
-  flipped Right = ringV R 2 0 (λ a h. h :× a := a :× less E (record { x = :0; y = :0 }) h) refl
-
   flip-wedge : (t : Side) (a z : Vec A) → Wedge K t a z → Wedge K (other t) z a
   flip-wedge t a z (open′ h) = open′ (pos-eq K (sym (swap K t z a)) h)
-  flip-wedge t a z (shut q h ah zh) = shut (swap K t z a ∙ q) (opposite N h) (pos-eq K (flipped t z h) zh) (pos-eq K (flipped t a h) ah)
+  flip-wedge t a z (shut q h ah zh) = shut (swap K t z a ∙ q) (opposite N h) (pos-eq K (flipped K t z h) zh) (pos-eq K (flipped K t a h) ah)
 
   to-right : (p : Portal A) (ps : List (Portal A)) (fb : List (Bend A)) (cs ds : List (Vertex A)) → Open K e Left p ps fb cs ds → Open K e Right p ps fb ds cs
   to-right p ps fb cs ds o = record { rest = o .rest; front = o .front; stem = o .stem; all = o .all; two = record { near = o .two .far; far = o .two .near; gap = flip-wedge Left (last K (p .left .point) cs ⟶ aim N e fb) (last K (p .right .point) ds ⟶ aim N e fb) (o .two .gap) } }
@@ -131,8 +127,8 @@ module _ (K : OrderedRing) (e : Vec (K .numbers .carrier)) where
     now-thread : Result K e z (p ∷ ps) (record { side = s; vertex = end s p } ∷ bb)
     now-thread = record { thread = bend-at (crosses K s z (end s p .point) p (ends-zero K s z (end s p .point) (end s p .point) refl) (nn-eq K (sym (swap K s (z ⟶ end s p .point) (z ⟶ end (other s) p .point))) (nn-pos K fr))) refl tu′ on; apart = tt }
 
-    inn₀ : Within N s (end s p .point ⟶ aim N e bb) (end s p .point ⟶ end (other s) p .point) (rays K e s (end s p .point) p ps h)
-    inn₀ = within K e s (end s p .point) p ps h refl bb on cr
+    in-run₀ : Within N s (end s p .point ⟶ aim N e bb) (end s p .point ⟶ end (other s) p .point) (rays K e s (end s p .point) p ps h)
+    in-run₀ = within K e s (end s p .point) p ps h refl bb on cr
 
     now : Within N s (end s p .point ⟶ aim N e bb) (end s p .point ⟶ z) (rays K e s (end s p .point) p₀ (p ∷ ps) (l, h)) → Flush K e s p₀ (p ∷ ps) (l, h) (end s p) bb
     now w = record {
@@ -145,7 +141,7 @@ module _ (K : OrderedRing) (e : Vec (K .numbers .carrier)) where
       first-round = (sym kept, nn-pos K tu′);
       arm = stop (crosses K s z (end s p .point) p₀ (ends-zero K s z (end s p .point) (end s p₀ .point) (ap (λ k. k .point) (sym kept))) (starts-zero K (other s) z (end s p .point)));
       turns = tu′;
-      inn = w;
+      in-run = w;
     }
 
   -- ---- the funnel at a portal, with the portals after it: its chains, each from the portal's end to the apex, and the final bends
@@ -186,7 +182,7 @@ module _ (K : OrderedRing) (e : Vec (K .numbers .carrier)) where
     left-next fb cs ds near rem fb′ o (still-open {ds′ = ds′} n) = (open-thread Left p₀ (p ∷ ps) fb′ near ds′ n, subst (λ m. State p₀ (p ∷ ps) (inr k, h) (p₀ .left ∷ near) fb′ (m ∷ ds′)) (sym (k .0)) (opens n))
     left-next fb cs ds near rem fb′ o (on-portal tu) = (
       now-thread Right fb (o .rest) p₀ p ps (o .front) ds h (inr k) (o .stem) (o .two .far) (o .all) (k .0) frₗ tu,
-      right-apex (now Right fb (o .rest) p₀ p ps (o .front) ds h (inr k) (o .stem) (o .two .far) (o .all) (k .0) frₗ tu (inr (inn₀ Right fb (o .rest) p₀ p ps (o .front) ds h (inr k) (o .stem) (o .two .far) (o .all) (k .0) frₗ tu))),
+      right-apex (now Right fb (o .rest) p₀ p ps (o .front) ds h (inr k) (o .stem) (o .two .far) (o .all) (k .0) frₗ tu (inr (in-run₀ Right fb (o .rest) p₀ p ps (o .front) ds h (inr k) (o .stem) (o .two .far) (o .all) (k .0) frₗ tu))),
     )
 
     pub left-step : (fb fb′ : List (Bend A)) (L R₁ near far : List (Vertex A)) → State p ps h L fb R₁ → Settled K e Left (p₀ .left .point) fb L R₁ near fb′ far → Lefts near fb′ far
@@ -202,7 +198,7 @@ module _ (K : OrderedRing) (e : Vec (K .numbers .carrier)) where
     left-step fb fb′ L R₁ near far (right-apex {m = m} {bs = bs} g) (hooks-on (stops-at tu)) = absurd (no-bend′ Left (p₀ .left .point) (m .point) (p .left .point) (subst (λ x. Pos (veer N Left (p₀ .left .point ⟶ x .point) (p₀ .left .point ⟶ p .left .point))) (g .is) frₗ) tu)
     left-step fb fb′ L R₁ near far (right-apex {m = m} {bs = bs} g) (looks (dropped un none-left) no-chain) = (
       flush-thread K e Right p ps h m bs g (p₀ .left .point) frₗ (f Right .1),
-      right-apex (stay K e Right p₀ p ps h (inr k) m bs g (k .0) frₗ (f Right .1) (inr (g .inn))),
+      right-apex (stay K e Right p₀ p ps h (inr k) m bs g (k .0) frₗ (f Right .1) (inr (g .in-run))),
     )
 
   -- ---- a new right end
@@ -215,7 +211,7 @@ module _ (K : OrderedRing) (e : Vec (K .numbers .carrier)) where
 
     right-next : (fb : List (Bend A)) (cs ds near rem : List (Vertex A)) (fb′ : List (Bend A)) → Open K e Right p ps fb ds cs → Next Right p₀ p ps fb cs near fb′ rem → Rights near fb′ rem
     right-next fb cs ds near rem fb′ o (still-open {ds′ = cs′} n) = subst (λ m. State p₀ (p ∷ ps) (inl k, h) (m ∷ cs′) fb′ (p₀ .right ∷ near)) (sym (k .0)) (opens (to-left p₀ (p ∷ ps) fb′ cs′ near n))
-    right-next fb cs ds near rem fb′ o (on-portal tu) = left-apex (now Left fb (o .rest) p₀ p ps (o .front) cs h (inl k) (o .stem) (o .two .far) (o .all) (k .0) frᵣ tu (inr (inn₀ Left fb (o .rest) p₀ p ps (o .front) cs h (inl k) (o .stem) (o .two .far) (o .all) (k .0) frᵣ tu)))
+    right-next fb cs ds near rem fb′ o (on-portal tu) = left-apex (now Left fb (o .rest) p₀ p ps (o .front) cs h (inl k) (o .stem) (o .two .far) (o .all) (k .0) frᵣ tu (inr (in-run₀ Left fb (o .rest) p₀ p ps (o .front) cs h (inl k) (o .stem) (o .two .far) (o .all) (k .0) frᵣ tu)))
 
     right-step : (fb fb′ : List (Bend A)) (L R₁ near far : List (Vertex A)) → State p ps h L fb R₁ → Settled K e Right (p₀ .right .point) fb R₁ L near fb′ far → Rights near fb′ far
     right-step fb fb′ L R₁ near far (opens {cs = cs} {ds = ds} o) se = let o′ : Open K e Right p ps fb ds cs = to-right p ps fb cs ds o in right-next fb cs ds near far fb′ o′ (stepped Right p₀ p ps fb ds cs o′ (k .0) frᵣ near far fb′ se)
@@ -225,7 +221,7 @@ module _ (K : OrderedRing) (e : Vec (K .numbers .carrier)) where
     right-step fb fb′ L R₁ near far (right-apex {m = m} {bs = bs} g) (looks none-left (passed no-chain tu)) = absurd (no-bend Right (p₀ .right .point) (p .left .point) (m .point) (subst (λ x. Pos (veer N Right (p₀ .right .point ⟶ p .left .point) (p₀ .right .point ⟶ x .point))) (g .is) frᵣ) tu)
     right-step fb fb′ L R₁ near far (right-apex {m = m} {bs = bs} g) (looks none-left (halts no-chain un)) = subst (λ x. State p₀ (p ∷ ps) (inl k, h) (x ∷ []) (record { side = Right; vertex = m } ∷ bs) (p₀ .right ∷ [])) (sym (k .0)) (opens (to-left p₀ (p ∷ ps) (record { side = Right; vertex = m } ∷ bs) [] [] (leave K e Right p₀ p ps h m bs g (k .0) frᵣ (f Right .1))))
     right-step fb fb′ L R₁ near far (left-apex {m = m} {bs = bs} g) (hooks-on (stops-at tu)) = absurd (no-bend′ Right (p₀ .right .point) (m .point) (p .right .point) (subst (λ x. Pos (veer N Right (p₀ .right .point ⟶ x .point) (p₀ .right .point ⟶ p .right .point))) (g .is) frᵣ) tu)
-    right-step fb fb′ L R₁ near far (left-apex {m = m} {bs = bs} g) (looks (dropped un none-left) no-chain) = left-apex (stay K e Left p₀ p ps h (inl k) m bs g (k .0) frᵣ (f Left .1) (inr (g .inn)))
+    right-step fb fb′ L R₁ near far (left-apex {m = m} {bs = bs} g) (looks (dropped un none-left) no-chain) = left-apex (stay K e Left p₀ p ps h (inl k) m bs g (k .0) frᵣ (f Left .1) (inr (g .in-run)))
 
   -- ---- the funnel at the last portal
   begin : (p : Portal A) → Front N p e → Open K e Left p [] [] [] []
@@ -268,7 +264,7 @@ module _ (K : OrderedRing) (e : Vec (K .numbers .carrier)) where
     widened p q ps (inl k) h f fans st =
         let g : Funnel A = settle N sign e Right (p .right .point) (reverse (f .far)) (f .final) (reverse (f .near)) in
         let se : Settled K e Right (p .right .point) (f .final) (reverse (f .far)) (f .near) (g .near) (g .final) (reverse (g .far)) =
-            subst (λ ns. Settled K e Right (p .right .point) (f .final) (reverse (f .far)) ns (g .near) (g .final) (reverse (g .far))) (reverse-reverse (f .near)) (settles K sign law e Right (p .right .point) (reverse (f .far)) (f .final) (reverse (f .near))) in
+        subst (λ ns. Settled K e Right (p .right .point) (f .final) (reverse (f .far)) ns (g .near) (g .final) (reverse (g .far))) (reverse-reverse (f .near)) (settles K sign law e Right (p .right .point) (reverse (f .far)) (f .final) (reverse (f .near))) in
         subst (Holds p (q ∷ ps) (inl k, h)) (sym (test-true (p .left .number) (q .left .number) (gain N sign e Right (p .right) f) (gain N sign e Left (p .left) f) (ap (λ v. v .number) (k .0))))
         (subst (λ ns. State p (q ∷ ps) (inl k, h) (reverse (g .far)) (g .final) ns) (sym (reverse-reverse (p .right ∷ g .near))) (right-step p q ps h k fans (f .final) (g .final) (f .near) (reverse (f .far)) (g .near) (reverse (g .far)) st se))
     widened p q ps (inr k) h f fans st =

@@ -6,7 +6,7 @@ use mathlib.Core.List.{List, [], _∷_}
 use mathlib.Core.Logic.{inl, inr}
 use Rattle.algebra.specs.Arithmetic.{Ops, OrderLaws, Arithmetic, Nn}
 use Rattle.algebra.specs.Plane.{Vec}
-use Rattle.algebra.proofs.RingSolver.{CommRing, order, nil-mul}
+use Rattle.algebra.proofs.RingSolver.{CommRing, nil-mul}
 use Rattle.algebra.proofs.OrderedRing.{OrderedRing, base, pos-eq, nn-eq, nn-pos, nn-split, sign′, pos-cancel, signs}
 use Rattle.taut.specs.declared.Side.{Side}
 use Rattle.taut.specs.Sleeve.{veer}

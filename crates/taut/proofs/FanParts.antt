@@ -6,7 +6,7 @@ use mathlib.Core.List.{List, [], _∷_, _++_, reverse, reverseAux}
 use mathlib.Core.Logic.{inl, inr}
 use Rattle.algebra.specs.Arithmetic.{Ops, OrderLaws, Arithmetic, Nn}
 use Rattle.algebra.specs.Plane.{Vec}
-use Rattle.algebra.proofs.RingSolver.{order, neg-nil}
+use Rattle.algebra.proofs.RingSolver.{neg-nil}
 use Rattle.algebra.proofs.OrderedRing.{OrderedRing, base, pos-eq, nn-eq, nn-pos, nn-nil, nn-split, sign′, pos-cancel, nn-cancel, signs}
 use Rattle.taut.specs.declared.Side.{Side}
 use Rattle.taut.specs.Sleeve.{other, veer}

@@ -3,7 +3,7 @@
 use mathlib.Core.Logic.{inl, inr}
 use Rattle.algebra.specs.Arithmetic.{Ops, OrderLaws, Arithmetic, Nn}
 use Rattle.algebra.specs.Plane.{Vec}
-use Rattle.algebra.proofs.RingSolver.{CommRing, order}
+use Rattle.algebra.proofs.RingSolver.{CommRing}
 use Rattle.algebra.proofs.OrderedRing.{OrderedRing, base, pos-eq, nn-eq, sign′, signs}
 use Rattle.taut.specs.declared.Side.{Side}
 use Rattle.taut.specs.Sleeve.{veer}

@@ -8,7 +8,6 @@ use native.Mathlib.Decide.{decLt}
 use lib.ListN.{getD, length}
 use Rattle.algebra.specs.Arithmetic.{Arithmetic}
 use Rattle.algebra.specs.Plane.{Vec}
-use Rattle.algebra.proofs.RingSolver.{holds}
 use Rattle.taut.specs.Sleeve.{Portal, end}
 use Rattle.taut.specs.TautString.{Bend, Crosses, Turns, aim, portal, bend, corners, corner, Indices, TautString}
 use Rattle.taut.proofs.Thread.{Thread, arrive, pass, bend-at, Taut}

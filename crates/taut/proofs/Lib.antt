@@ -6,14 +6,18 @@ pub mod IndexForm
 pub mod SwitchingLemma
 pub mod Wholes
 pub mod Shortness
+pub mod Shortcut
 pub mod Along
 pub mod FanLemma
 pub mod FanParts
 pub mod FanOrder
 pub mod Parting
 pub mod Parted
+pub mod Facing
+pub mod PieceOrder
 pub mod Common
 pub mod Uniqueness
+pub mod Popping
 pub mod Settling
 pub mod FrontLemma
 pub mod Chains
@@ -26,4 +30,6 @@ pub mod ApexOnPortal
 pub mod Existence
 pub mod PortalOrder
 pub mod Backwards
+pub mod Fork
+pub mod EqualBends
 pub mod AtNumbers

@@ -6,7 +6,7 @@ use mathlib.Core.List.{List, [], _∷_}
 use mathlib.Core.Logic.{inl, inr}
 use Rattle.algebra.specs.Arithmetic.{Ops, OrderLaws, Arithmetic, Nn}
 use Rattle.algebra.specs.Plane.{Vec, _⟶_ as _⇢_}
-use Rattle.algebra.proofs.RingSolver.{CommRing, order}
+use Rattle.algebra.proofs.RingSolver.{CommRing}
 use Rattle.algebra.proofs.OrderedRing.{OrderedRing, base, pos-eq, nn-pos, sign′, nn-add-pos}
 use Rattle.taut.specs.declared.Side.{Side}
 use Rattle.taut.specs.declared.Side.the-variants.{Left, Right}

@@ -6,7 +6,7 @@ use mathlib.Core.Path.{_≡_, sym, ap, subst}
 use mathlib.Core.Logic.{inl, inr}
 use Rattle.algebra.specs.Arithmetic.{Ops, OrderLaws, Arithmetic, Nn}
 use Rattle.algebra.specs.Plane.{Vec, _⟶_ as _⇢_}
-use Rattle.algebra.proofs.RingSolver.{CommRing, order}
+use Rattle.algebra.proofs.RingSolver.{CommRing}
 use Rattle.algebra.proofs.OrderedRing.{OrderedRing, base, pos-eq, nn-eq, nn-pos, sign′, nn-add, pos-cancel, signs}
 use Rattle.taut.specs.declared.Side.{Side}
 use Rattle.taut.specs.declared.Side.the-variants.{Left, Right}
@@ -87,7 +87,7 @@ module _ (K : OrderedRing) where
     fore-q : (z : Vec A) → In-front t q z → Pos (veer N t (x ⟶ o) (x ⟶ z))
     fore-q z h = subst (λ m. Pos (veer N t (x ⟶ m .point) (x ⟶ z))) kept h
 
-    -- straight K on
+    -- straight on
     pub ahead-straight : (v w z : Vec A) → Crosses N v w p → Crosses N v w q → In-front t q z → Nn N (veer N t (v ⟶ w) (v ⟶ z)) → Pos (veer N t (v ⟶ w) (o ⟶ z)) → In-front t p z
     ahead-straight v w z cp cq fz l dz = elim (sign′ K (veer N t (f ⟶ o) (f ⟶ z))) [
       | inl h ↦ h

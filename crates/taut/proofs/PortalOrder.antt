@@ -6,7 +6,7 @@ use mathlib.Core.Logic.{_⊎_, inl, inr}
 use Prim.Native.Nat.{ℕ, zero, suc, _≤_, _-_ as _∸_}
 use Rattle.algebra.specs.Arithmetic.{Ops, OrderLaws, Arithmetic, Nn}
 use Rattle.algebra.specs.Plane.{Vec, plus, less, times, _⊗_, _⟶_ as _⇢_}
-use Rattle.algebra.proofs.RingSolver.{CommRing, :0, _:+_, _:-_, _:*_, :-_, _:=_, E, order, neg-neg, neg-nil, ring}
+use Rattle.algebra.proofs.RingSolver.{CommRing, :0, _:+_, _:-_, _:*_, :-_, _:=_, E, neg-neg, neg-nil, ring}
 use Rattle.algebra.proofs.OrderedRing.{OrderedRing, base, pos-eq, nn-eq, nn-pos, nn-nil, pos-add-nn, nn-add-pos, nn-add, signs}
 use Rattle.algebra.proofs.PlaneSolver.{_:×_, ringV, same-vector}
 use Rattle.taut.specs.declared.Side.{Side}

@@ -1,15 +1,16 @@
 -- Signs that a portal gives, for either of its ends.
-use mathlib.Core.Path.{_≡_, sym, _∙_, subst}
+use mathlib.Core.Path.{_≡_, refl, sym, _∙_, subst}
+use mathlib.Core.List.{List, [], _∷_}
 use mathlib.Core.Logic.{_⊎_, inl, inr}
 use Rattle.algebra.specs.Arithmetic.{Arithmetic, Nn}
 use Rattle.algebra.specs.Plane.{Vec, _⟶_ as _⇢_}
 use Rattle.algebra.proofs.OrderedRing.{OrderedRing, pos-eq, nn-eq, nn-nil}
 use Rattle.taut.specs.declared.Side.{Side}
 use Rattle.taut.specs.declared.Side.the-variants.{Left, Right}
-use Rattle.taut.specs.Sleeve.{other, Portal, end, veer, Front, Keeps, Link}
+use Rattle.taut.specs.Sleeve.{other, Portal, end, veer, Front, Behind, Keeps, Link, Ahead}
 use Rattle.taut.specs.TautString.{Crosses}
 use Rattle.taut.proofs.Sides.{both}
-use Rattle.taut.proofs.Veer.{back, self, to-head, cyc}
+use Rattle.taut.proofs.Veer.{back, self, still, to-head, cyc}
 
 module _ (K : OrderedRing) where
   abbrev N : Arithmetic
@@ -51,3 +52,20 @@ module _ (K : OrderedRing) where
   -- it crosses a portal if each end is on its proper side
   pub crosses : (s : Side) (y v : Vec A) (q : Portal A) → Nn N (veer N s (y ⟶ v) (y ⟶ end s q .point)) → Nn N (veer N (other s) (y ⟶ v) (y ⟶ end (other s) q .point)) → Crosses N y v q
   crosses s y v q h k = both s (λ x. Nn N (veer N x (y ⟶ v) (y ⟶ end x q .point))) h k
+
+  -- the end that the next portal replaces lies strictly behind it
+  pub behind-replaced : (t : Side) (p q : Portal A) → Keeps N (other t) p q → Behind N q (end t p .point)
+  behind-replaced Left p q k = subst (λ m. Pos (veer N Right (q .left .point ⟶ m .point) (q .left .point ⟶ p .left .point))) (sym (k .0)) (pos-eq K (sym (cyc K Left (q .left .point) (p .left .point) (p .right .point))) (k .1))
+  behind-replaced Right p q k = subst (λ m. Pos (veer N Right (m .point ⟶ q .right .point) (m .point ⟶ p .right .point))) (sym (k .0)) (k .1)
+
+  -- a portal that has something in front of it is no single point
+  pub no-front-end : (t : Side) (p : Portal A) → Front N p (end t p .point) → ⊥
+  no-front-end Left p f = starts-zero Right (p .left .point) (p .right .point) .not-neg (pos-eq K (sym (back K Right (p .left .point ⟶ p .right .point) (p .left .point ⟶ p .left .point)) ∙ refl) f)
+  no-front-end Right p f = K .laws .order .pos-nil (pos-eq K (self K Left (p .left .point ⟶ p .right .point)) f)
+
+  one-point : (t : Side) (p : Portal A) (x : Vec A) → Front N p x → end (other t) p .point ≡ end t p .point → ⊥
+  one-point t p x f is = K .laws .order .pos-nil (pos-eq K (still K t (end t p .point) (end t p .point ⟶ x)) (subst (λ u. Pos (veer N t (end t p .point ⟶ u) (end t p .point ⟶ x))) is (front t p x f)))
+
+  pub two-ends : (t : Side) (e : Vec A) (p : Portal A) (ps : List (Portal A)) → Ahead N e p ps → end (other t) p .point ≡ end t p .point → ⊥
+  two-ends t e p [] h is = one-point t p e h is
+  two-ends t e p (q ∷ ps) h is = elim (h .0) [ inl k ↦ one-point t p (q .right .point) (k .1) is | inr k ↦ one-point t p (q .left .point) (k .1) is ]

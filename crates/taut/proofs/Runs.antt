@@ -5,7 +5,7 @@ use mathlib.Core.List.{List, [], _∷_}
 use mathlib.Core.Logic.{_⊎_, inl, inr}
 use Rattle.algebra.specs.Arithmetic.{Ops, OrderLaws, Arithmetic, Nn}
 use Rattle.algebra.specs.Plane.{Vec, _⟶_ as _⇢_}
-use Rattle.algebra.proofs.RingSolver.{CommRing, order, at}
+use Rattle.algebra.proofs.RingSolver.{CommRing, at}
 use Rattle.algebra.proofs.OrderedRing.{OrderedRing, base, pos-eq, nn-eq, nn-nil}
 use Rattle.taut.specs.declared.Side.{Side}
 use Rattle.taut.specs.declared.Side.the-variants.{Left, Right}
@@ -87,7 +87,7 @@ module _ (K : OrderedRing) (e : Vec (K .numbers .carrier)) where
       (λ k f. inl (behind s v (aim N e bs) p c, crossing N st s))
 
   -- ---- the rays of a run, as specs/Fan has them
-  run-rays : (s : Side) (v : Vec A) (p : Portal A) (ps : List (Portal A)) (h : Ahead N e p ps) → end s p .point ≡ v → Run N s e p ps (rays s v p ps h)
+  pub run-rays : (s : Side) (v : Vec A) (p : Portal A) (ps : List (Portal A)) (h : Ahead N e p ps) → end s p .point ≡ v → Run N s e p ps (rays s v p ps h)
   run-rays s v p [] h is = subst (λ u. Run N s e p [] ((u ⟶ e) ∷ [])) is ends
   run-rays s v p (q ∷ ps) h is = by-link s p q (h .0) (Run N s e p (q ∷ ps)) ((v ⟶ end (other s) q .point) ∷ rays s v q ps (h .1)) ((v ⟶ end s q .point) ∷ [])
       (λ k. subst (λ u. Run N s e p (q ∷ ps) ((u ⟶ end (other s) q .point) ∷ rays s v q ps (h .1))) is (goes-on k (run-rays s v q ps (h .1) (ap (λ m. m .point) (k .0) ∙ is))))

@@ -6,7 +6,7 @@ use mathlib.Core.Bool.{Bool, true, false, cond}
 use Rattle.algebra.specs.Arithmetic.{Ops, Arithmetic, Nn}
 use Rattle.algebra.specs.Plane.{Vec, _⊗_, _⟶_ as _⇢_}
 use Rattle.algebra.proofs.RingSolver.{neg-neg, neg-nil}
-use Rattle.algebra.proofs.OrderedRing.{OrderedRing, base, pos-eq, nn-eq, nn-pos, nn-nil, sign}
+use Rattle.algebra.proofs.OrderedRing.{OrderedRing, base, pos-eq, nn-eq, nn-pos, nn-nil}
 use Rattle.algebra.specs.declared.Sign.{Sign}
 use Rattle.algebra.specs.declared.Sign.the-variants.{Plus, Zero, Minus}
 use Rattle.taut.specs.declared.Side.{Side}
@@ -102,8 +102,8 @@ module _ (K : OrderedRing) where
           let on : Advanced fb₁ (reverse zs) (advance N sign e t y fb₁ zs) = advances fb₁ zs in
           subst (λ ds. Advanced fb ds (advance N sign e t y fb (z ∷ zs))) (sym (reverse-cons z zs))
           (tested (other t) y (z .point) (aim N e fb) (λ b. Advanced fb (reverse zs ++ (z ∷ [])) (cond b (advance N sign e t y fb₁ zs) (record { near = []; final = fb; far = z ∷ zs })))
-            (λ tu. (on .0, more e (other t) y fb z tu (on .1)))
-            (λ un. (refl, subst (λ ds. Cuts e (other t) y fb (reverse zs ++ (z ∷ [])) fb ds) (sym (reverse-cons z zs)) (all-stand e (other t) y fb z (reverse zs) un))))
+          (λ tu. (on .0, more e (other t) y fb z tu (on .1)))
+          (λ un. (refl, subst (λ ds. Cuts e (other t) y fb (reverse zs ++ (z ∷ [])) fb ds) (sym (reverse-cons z zs)) (all-stand e (other t) y fb z (reverse zs) un))))
 
       abbrev Goes : List (Bend A) → List (Vertex A) → List (Vertex A) → Funnel A → Type 0
       Goes fb near far g = Settled e t y fb near far (g .near) (g .final) (reverse (g .far))

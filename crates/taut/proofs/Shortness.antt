@@ -9,7 +9,7 @@ use Prim.Native.Nat.{ℕ, _≤_, _-_ as _∸_}
 use lib.Dec.{T}
 use Rattle.algebra.specs.Arithmetic.{Ops, OrderLaws, Arithmetic, Nn}
 use Rattle.algebra.specs.Plane.{Vec, plus, less, times, dot, _⊗_, _⟶_ as _⇢_, _⊙_}
-use Rattle.algebra.proofs.RingSolver.{CommRing, :0, _:+_, _:-_, _:*_, :-_, _:=_, E, order, ring}
+use Rattle.algebra.proofs.RingSolver.{CommRing, :0, _:+_, _:-_, _:*_, :-_, _:=_, E, ring}
 use Rattle.algebra.proofs.OrderedRing.{OrderedRing, base, nn-eq, nn-pos, sign, nn-add, nn-mul}
 use Rattle.algebra.proofs.PlaneSolver.{_:×_, ringV, same-vector}
 use Rattle.taut.specs.declared.Side.{Side}

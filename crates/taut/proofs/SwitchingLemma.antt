@@ -6,7 +6,7 @@ use mathlib.Core.Path.{_≡_, refl}
 use mathlib.Core.Logic.{inl, inr}
 use Rattle.algebra.specs.Arithmetic.{Ops, OrderLaws, Arithmetic, Nn}
 use Rattle.algebra.specs.Plane.{Vec, dot, _⊗_, _⟶_ as _⇢_, _⊙_}
-use Rattle.algebra.proofs.RingSolver.{CommRing, :0, _:+_, _:-_, _:*_, :-_, _:=_, E, order}
+use Rattle.algebra.proofs.RingSolver.{CommRing, :0, _:+_, _:-_, _:*_, :-_, _:=_, E}
 use Rattle.algebra.proofs.OrderedRing.{OrderedRing, base, pos-eq, nn-eq, sign′, nn-cancel, signs}
 use Rattle.algebra.proofs.PlaneSolver.{_:×_, ringV}
 use Rattle.taut.specs.declared.Side.{Side}

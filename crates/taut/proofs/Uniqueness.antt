@@ -6,22 +6,23 @@ use mathlib.Core.List.{List, [], _∷_}
 use mathlib.Core.Logic.{inl, inr}
 use Rattle.algebra.specs.Arithmetic.{Ops, OrderLaws, Arithmetic, Nn}
 use Rattle.algebra.specs.Plane.{Vec, _⟶_ as _⇢_}
-use Rattle.algebra.proofs.RingSolver.{CommRing, none, order, sub-nil}
-use Rattle.algebra.proofs.OrderedRing.{OrderedRing, base, pos-eq, nn-eq, nn-pos, nn-split, sign, nn-add, nn-both}
-use Rattle.algebra.proofs.PlaneSolver.{same-vector}
+use Rattle.algebra.proofs.RingSolver.{CommRing, none}
+use Rattle.algebra.proofs.OrderedRing.{OrderedRing, base, pos-eq, nn-eq, nn-pos, sign}
 use Rattle.taut.specs.declared.Side.{Side}
 use Rattle.taut.specs.declared.Side.the-variants.{Left, Right}
 use Rattle.taut.specs.Sleeve.{other, Portal, end, veer, Front, Behind, Ahead, Sleeve}
 use Rattle.taut.specs.TautString.{Bend, Crosses, Turns, aim, Stretched, TautString}
-use Rattle.taut.specs.Fan.{origin, ends}
-use Rattle.taut.proofs.Veer.{swap, back, still, from-head, to-foot, cyc, behind-is, left-end, right-end, through-portal}
+use Rattle.taut.specs.Fan.{ends}
+use Rattle.taut.proofs.Veer.{swap, back, still, from-head, to-foot, cyc, behind-is, left-end, right-end}
 use Rattle.taut.proofs.Sides.{which, side-of, both}
 use Rattle.taut.proofs.Portals.{front, on-line}
 use Rattle.taut.proofs.Thread.{Thread, arrive, pass, bend-at, crossing, first-turn, Taut}
 use Rattle.taut.proofs.IndexForm.{to-taut}
-use Rattle.taut.proofs.Along.{along-both, axes}
+use Rattle.taut.proofs.Along.{goes-somewhere}
 use Rattle.taut.proofs.Parting.{In-front, bent-near, bent-new}
 use Rattle.taut.proofs.Parted.{delay, Pair, waits, parts, aparts}
+use Rattle.taut.proofs.Facing.{all-faces}
+use Rattle.taut.proofs.PieceOrder.{goes-through}
 use Rattle.taut.proofs.Common.{nn-zero, Common, turned, clear, onward}
 
 pub same-bend : {A : Type 0} {b b′ : Bend A} {bs bs′ : List (Bend A)} → b .side ≡ b′ .side → b .vertex ≡ b′ .vertex → bs ≡ bs′ → (b ∷ bs) ≡ (b′ ∷ bs′)
@@ -48,12 +49,6 @@ module _ (K : OrderedRing) (e : Vec (K .numbers .carrier)) where
   fore-other : (t : Side) (p : Portal A) (z : Vec A) → In-front K t p z → In-front K (other t) p z
   fore-other Left p z f = pos-eq K (cyc K Left (p .left .point) (p .right .point) z) f
   fore-other Right p z f = pos-eq K (cyc K Right (p .right .point) (p .left .point) z) f
-
-  all-faces : (t : Side) (q : Portal A) (x : Vec A) → Nn N (veer N t (x ⟶ end (other t) q .point) (x ⟶ end t q .point)) → (s : Side) → Nn N (veer N s (x ⟶ end (other s) q .point) (x ⟶ end s q .point))
-  all-faces Left q x n Left = n
-  all-faces Left q x n Right = n
-  all-faces Right q x n Left = n
-  all-faces Right q x n Right = n
 
   -- the other string, seen from a bend
   beside : (t : Side) (p : Portal A) (x w′ : Vec A) (b : Bend A) → b .side ≡ t → end (b .side) p ≡ b .vertex → Crosses N x w′ p → Nn N (veer N t (x ⟶ w′) (x ⟶ b .vertex .point))
@@ -99,7 +94,7 @@ module _ (K : OrderedRing) (e : Vec (K .numbers .carrier)) where
           h = v ⟶ f;
           on = pos-eq K (sym (swap K t (f ⟶ w) (v ⟶ f))) tu;
           on′ = pos-eq K (sym (swap K t (f ⟶ w′) (v ⟶ f))) tu′;
-          faces = all-faces t q f (subst (λ m. Nn N (veer N t (f ⟶ m .point) (f ⟶ z))) (sym kept) (nn-pos K fr));
+          faces = all-faces K t q f (subst (λ m. Nn N (veer N t (f ⟶ m .point) (f ⟶ z))) (sym kept) (nn-pos K fr));
           ahead = new w tu cq;
           ahead′ = new w′ tu′ cq′;
         }
@@ -114,7 +109,7 @@ module _ (K : OrderedRing) (e : Vec (K .numbers .carrier)) where
           h = v ⟶ o;
           on = pos-eq K (swap K t (v ⟶ o) (o ⟶ w)) tu;
           on′ = pos-eq K (swap K t (v ⟶ o) (o ⟶ w′)) tu′;
-          faces = all-faces t q o (nn-zero K (still K t o (o ⟶ z)));
+          faces = all-faces K t q o (nn-zero K (still K t o (o ⟶ z)));
           ahead = new w;
           ahead′ = new w′;
         }
@@ -199,21 +194,6 @@ module _ (K : OrderedRing) (e : Vec (K .numbers .carrier)) where
     | inr k ↦ next Left p q ps (k .0) (front K Left p (q .left .point) (k .1)) (λ s. aparts K e s ps q (h .1)) (agree ps q (h .1)) x bs bs′ cm one two
   ]
 
-  -- a piece that crosses a portal and does not go through it goes nowhere
-  stands : (l r s w : Vec A) → Pos (veer N Left (s ⟶ r) (s ⟶ l)) → veer N Right (s ⟶ w) (s ⟶ r) ≡ 𝟘 → veer N Left (s ⟶ w) (s ⟶ l) ≡ 𝟘 → s ≡ w
-  unfolding _⇢_
-  stands l r s w h a b =
-      let is : (s ⟶ w) ≡ origin N = axes K Left (s ⟶ w) (λ x. along-both K Left (s ⟶ r) (s ⟶ l) (s ⟶ w) x h a b) in
-      same-vector R (sym (sub-nil R (w .x) (s .x) (ap (λ v. v .x) is))) (sym (sub-nil R (w .y) (s .y) (ap (λ v. v .y) is)))
-
-  goes : (p : Portal A) (s w : Vec A) → Pos (veer N Left (s ⟶ p .right .point) (s ⟶ p .left .point)) → Crosses N s w p → ¬ (s ≡ w) → Pos (veer N Right (s ⟶ w) (p .left .point ⟶ p .right .point))
-  goes p s w h c ne = elim (nn-split K (nn-add K (c Right) (c Left))) [
-    | inl g ↦ pos-eq K (through-portal K (p .left .point) (p .right .point) s w) g
-    | inr z ↦
-        let two : (veer N Right (s ⟶ w) (s ⟶ p .right .point) ≡ 𝟘) × (veer N Left (s ⟶ w) (s ⟶ p .left .point) ≡ 𝟘) = nn-both K (c Right) (c Left) z in
-        absurd (ne (stands (p .left .point) (p .right .point) s w h (two .0) (two .1)))
-  ]
-
   moving : (s : Vec A) (p : Portal A) (ps : List (Portal A)) (bs : List (Bend A)) → Thread N e s (p ∷ ps) bs → Stretched N s (p ∷ ps) bs e → ¬ (s ≡ aim N e bs)
   moving s p ps [] st h = h
   moving s p ps (b ∷ bs) st h = λ q. pos-nil (pos-eq K (still K (b .side) (b .vertex .point) (b .vertex .point ⟶ aim N e bs)) (subst (λ u. Pos (veer N (b .side) (u ⟶ b .vertex .point) (b .vertex .point ⟶ aim N e bs))) q (first-turn N st)))
@@ -224,7 +204,7 @@ module _ (K : OrderedRing) (e : Vec (K .numbers .carrier)) where
       let r : Vec A = p .right .point in
       let h : Pos (veer N Left (s ⟶ r) (s ⟶ l)) = pos-eq K (behind-is K l r s) bh in
       let ends : (u : Vec A) (t : Side) → veer N t (s ⟶ u) (s ⟶ end t p .point) ≡ 𝟘 → Nn N (veer N Right (s ⟶ end t p .point) (l ⟶ r)) = λ u. both Left (λ t. veer N t (s ⟶ u) (s ⟶ end t p .point) ≡ 𝟘 → Nn N (veer N Right (s ⟶ end t p .point) (l ⟶ r))) (λ k. nn-pos K (pos-eq K (left-end K l r s) h)) (λ k. nn-pos K (pos-eq K (right-end K l r s) h)) in
-      record { side = Right; h = l ⟶ r; on = goes p s w h c ne; on′ = goes p s w′ h c′ ne′; faces = all-faces Left p s (nn-pos K h); ahead = ends w; ahead′ = ends w′ }
+      record { side = Right; h = l ⟶ r; on = goes-through K p s (s ⟶ w) h c (goes-somewhere K s w ne); on′ = goes-through K p s (s ⟶ w′) h c′ (goes-somewhere K s w′ ne′); faces = all-faces K Left p s (nn-pos K h); ahead = ends w; ahead′ = ends w′ }
 
   -- for threads
   pub unique : (s : Vec A) (ps : List (Portal A)) (bs bs′ : List (Bend A)) → Sleeve N s ps e → Taut N s ps e bs → Taut N s ps e bs′ → bs ≡ bs′

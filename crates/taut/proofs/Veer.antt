@@ -230,6 +230,16 @@ module _ (K : OrderedRing) where
   unfolding _⊗_ _⇢_
   right-end = ringV R 3 0 (λ l r s. less E r s :× less E l s := less E r l :× less E r s) refl
 
-  pub through-portal : (l r s w : Vec A) → veer N Right (s ⟶ w) (s ⟶ r) + veer N Left (s ⟶ w) (s ⟶ l) ≡ veer N Right (s ⟶ w) (l ⟶ r)
+  pub sum-through : (l r x d : Vec A) → veer N Right d (x ⟶ r) + veer N Left d (x ⟶ l) ≡ veer N Right d (l ⟶ r)
   unfolding _⊗_ _⇢_
-  through-portal = ringV R 4 0 (λ l r s w. less E r s :× less E w s :+ less E w s :× less E l s := less E r l :× less E w s) refl
+  sum-through = ringV R 4 0 (λ l r x d. less E r x :× d :+ d :× less E l x := less E r l :× d) refl
+
+  pub lies : (t : Side) (v w x : Vec A) → veer N t (v ⟶ w) (x ⟶ w) ≡ - (veer N t (v ⟶ w) (v ⟶ x))
+  unfolding _⊗_ _⇢_
+  lies Left = ringV R 3 0 (λ v w x. less E w v :× less E w x := :- (less E w v :× less E x v)) refl
+  lies Right = ringV R 3 0 (λ v w x. less E w x :× less E w v := :- (less E x v :× less E w v)) refl
+
+  pub turn-round : (t : Side) (w x a : Vec A) → - (veer N t (w ⟶ x) a) ≡ veer N t (x ⟶ w) a
+  unfolding _⊗_ _⇢_
+  turn-round Left = ringV R 3 0 (λ w x a. :- (less E x w :× a) := less E w x :× a) refl
+  turn-round Right = ringV R 3 0 (λ w x a. :- (a :× less E x w) := a :× less E w x) refl

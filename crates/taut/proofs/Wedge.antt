@@ -5,7 +5,7 @@ use mathlib.Core.Logic.{_⊎_, inl, inr}
 use Prim.Native.Nat.{zero}
 use Rattle.algebra.specs.Arithmetic.{Ops, OrderLaws, Arithmetic, Nn}
 use Rattle.algebra.specs.Plane.{Vec, _⟶_ as _⇢_}
-use Rattle.algebra.proofs.RingSolver.{CommRing, order, nil-mul}
+use Rattle.algebra.proofs.RingSolver.{CommRing, nil-mul}
 use Rattle.algebra.proofs.OrderedRing.{OrderedRing, base, pos-eq, nn-eq, nn-pos, nn-split, pos-cancel, nn-cancel, signs, nil-cancel, nn-both}
 use Rattle.taut.specs.declared.Side.{Side}
 use Rattle.taut.specs.Sleeve.{other, veer}

@@ -3,7 +3,7 @@ use mathlib.Core.Path.{_≡_, refl, ap, _∙_}
 use Prim.Native.Nat.{ℕ, zero, suc, _≤_, _-_ as _∸_}
 use native.Mathlib.Omega.{arith}
 use Rattle.algebra.specs.Arithmetic.{Ops, Arithmetic, Nn}
-use Rattle.algebra.proofs.RingSolver.{CommRing, :0, :1, _:+_, _:-_, :-_, _:=_, order, ring}
+use Rattle.algebra.proofs.RingSolver.{CommRing, :0, :1, _:+_, _:-_, :-_, _:=_, ring}
 use Rattle.algebra.proofs.OrderedRing.{OrderedRing, base, nn-pos, nn-nil, nn-add}
 use Rattle.taut.specs.Lengths.{whole}
 

@@ -24,4 +24,5 @@ backward-bends bs = reverse (map back-bend bs)
 
 pub record Backwards : Type 0 where
   pub sleeve : (s e : Vec Number) (ps : List (Portal Number)) → Sleeve quadratics s ps e → Sleeve quadratics e (backward ps) s
-  pub string : (s e : Vec Number) (ps : List (Portal Number)) (bs : List (Bend Number)) → Sleeve quadratics s ps e → TautString quadratics s ps e bs → TautString quadratics e (backward ps) s (backward-bends bs)
+  pub string : (s e : Vec Number) (ps : List (Portal Number)) (bs : List (Bend Number)) → Sleeve quadratics s ps e → TautString quadratics s ps e bs
+      → TautString quadratics e (backward ps) s (backward-bends bs)

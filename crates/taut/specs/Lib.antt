@@ -6,3 +6,4 @@ pub mod Funnel
 pub mod Laws
 pub mod SheetStrings
 pub mod Backwards
+pub mod EqualBends

@@ -1,11 +1,19 @@
 // Theorems on the taut string, each on a contract so that its proof is asked for.
-ghost use Rattle.taut.specs.Laws.{Shortness, Existence, Uniqueness, FanOrder, FanParts, PortalOrder};
+ghost use Rattle.taut.specs.Laws.{Shortness, Shortcut, Existence, Uniqueness, FanOrder, FanParts, PortalOrder};
 ghost use Rattle.taut.specs.Backwards.{Backwards};
+ghost use Rattle.taut.specs.EqualBends.{EqualBends};
 ghost use Rattle.taut.specs.SheetStrings.{SheetStrings};
 
 // No path through the portals is shorter than the taut string, under any gauge.
 pub fn shortness_stands() -> u8
     ensures { λ _. ⌜ Shortness ⌝ }
+{
+    0
+}
+
+// A path that leaves out a place measures no more.
+pub fn shortcut_stands() -> u8
+    ensures { λ _. ⌜ Shortcut ⌝ }
 {
     0
 }
@@ -48,6 +56,13 @@ pub fn portal_order_stands() -> u8
 // A sleeve read backwards, and its string.
 pub fn backwards_stand() -> u8
     ensures { λ _. ⌜ Backwards ⌝ }
+{
+    0
+}
+
+// Walks that part in a triangle do not have the same bends and the same end.
+pub fn equal_bends_stand() -> u8
+    ensures { λ _. ⌜ EqualBends ⌝ }
 {
     0
 }

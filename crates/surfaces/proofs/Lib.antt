@@ -1,0 +1,17 @@
+pub mod Codes
+pub mod Turns
+pub mod FanOrder
+pub mod SheetCells
+pub mod SheetTwins
+pub mod SheetGrid
+pub mod SheetFans
+pub mod SheetLawful
+pub mod SheetEnds
+pub mod FanRays
+pub mod MirroredLawful
+pub mod BarredLawful
+pub mod SheetAnswers
+pub mod LayerTwins
+pub mod BarredLists
+pub mod SoundStable
+pub mod ListedLawful

@@ -1,0 +1,4 @@
+pub mod Lawful
+pub mod Layers
+pub mod Sheet
+pub mod Laws

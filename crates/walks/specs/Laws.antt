@@ -1,0 +1,51 @@
+-- Walking      what holds of walks on a surface:
+--   arrives      a walk ends in one triangle
+--   within       .. of the surface
+--   joined       a walk and a walk from where it ends make a walk; a single crossing is a walk too
+--   parted       both parts of a walk are walks
+--   spur-in      a spur put into a walk leaves it a walk between the same triangles
+--   spur-out     so does a spur taken out
+--   one-more     a crossing added to a walk, with which its last crossing may cancel, makes a walk
+--   reduced      the reduction of a walk is a walk between the same triangles
+--   homotopic    homotopic walks from one triangle end in one triangle
+--   walked-back  the way back is a walk
+-- WalkLaws     all that on every sound surface
+-- SleeveLaw    on a sound surface the portals of a walk without spurs between terminals make a sleeve, and each of its runs makes a fan
+-- ExactlyOne   such a walk has exactly one taut string: the bends that the funnel finds
+use mathlib.Core.Path.{_≡_}
+use mathlib.Core.List.{List, [], _∷_, _++_}
+use Prim.Native.Nat.{_<_}
+use Rattle.base.specs.declared.ids.TriangleId.{TriangleId}
+use Rattle.algebra.specs.Number.{Number, quadratics, sign}
+use Rattle.geometry.specs.Plane.{Point}
+use Rattle.words.specs.declared.sorts.Crossing.{Crossing}
+use Rattle.words.specs.Sorts.{recrossed, same-crossing}
+use Rattle.words.specs.Words.{Homotopic, added, reduction}
+use Rattle.taut.specs.Sleeve.{Sleeve}
+use Rattle.taut.specs.Fan.{FanBound}
+use Rattle.taut.specs.TautString.{Bend}
+use Rattle.taut.specs.Funnel.{funnel}
+use Rattle.mesh.specs.Surface.{Surface}
+use Rattle.mesh.specs.Sound.{Sound}
+use Rattle.walks.specs.Walks.{Walk, arrival, way-back, portals, Joins, TautOf}
+
+pub record Walking (f : Surface) : Type 0 where
+  pub arrives : (t u : TriangleId) (w : List Crossing) → Walk f t w u → arrival t w ≡ u
+  pub within : (t u : TriangleId) (w : List Crossing) → t .0 < f .F → Walk f t w u → u .0 < f .F
+  pub joined : (t m u : TriangleId) (v w : List Crossing) → Walk f t v m → Walk f m w u → Walk f t (v ++ w) u
+  pub parted : (t u : TriangleId) (v w : List Crossing) → Walk f t (v ++ w) u → Walk f t v (arrival t v) × Walk f (arrival t v) w u
+  pub spur-in : (t m u : TriangleId) (v w : List Crossing) (c : Crossing) → t .0 < f .F → Walk f t (v ++ w) u → Walk f (arrival t v) (c ∷ []) m → Walk f t (v ++ c ∷ recrossed c ∷ w) u
+  pub spur-out : (t u : TriangleId) (v w : List Crossing) (c : Crossing) → Walk f t (v ++ c ∷ recrossed c ∷ w) u → Walk f t (v ++ w) u
+  pub one-more : (t m u : TriangleId) (w : List Crossing) (c : Crossing) → Walk f t w m → Walk f m (c ∷ []) u → Walk f t (added recrossed same-crossing w c) u
+  pub reduced : (t u : TriangleId) (w : List Crossing) → Walk f t w u → Walk f t (reduction recrossed same-crossing w) u
+  pub homotopic : (t u u′ : TriangleId) (v w : List Crossing) → Homotopic recrossed v w → Walk f t v u → Walk f t w u′ → u ≡ u′
+  pub walked-back : (t u : TriangleId) (w : List Crossing) → t .0 < f .F → Walk f t w u → Walk f u (way-back w) t
+
+abbrev pub WalkLaws : Type 0
+WalkLaws = (f : Surface) → Sound f → Walking f
+
+abbrev pub SleeveLaw : Type 0
+SleeveLaw = (f : Surface) → Sound f → (t u : TriangleId) (s e : Point) (w : List Crossing) → Joins f t s w u e → Sleeve quadratics s (portals f w) e × FanBound quadratics s (portals f w) e
+
+abbrev pub ExactlyOne : Type 0
+ExactlyOne = (f : Surface) → Sound f → (t u : TriangleId) (s e : Point) (w : List Crossing) → Joins f t s w u e → TautOf f s w e (funnel quadratics sign s (portals f w) e) × ((bs : List (Bend Number)) → TautOf f s w e bs → bs ≡ funnel quadratics sign s (portals f w) e)

