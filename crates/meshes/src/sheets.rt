@@ -199,39 +199,12 @@ pub impl Mesh for PerforatedSheet as SheetMesh {
         }
         let Square { column, row } = self.cell(h.0 / 6);
         match h.0 % 6 {
-<<<<<<< HEAD
-            0 if row == 0 => None,
-            0 => self.half_edge(
-                Square {
-                    column,
-                    row: row - 1,
-                },
-                4,
-            ),
-            1 => self.half_edge(
-                Square {
-                    column: column + 1,
-                    row,
-                },
-                5,
-            ),
-            2 => Some(HalfEdgeId(h.0 + 1)),
-            3 => Some(HalfEdgeId(h.0 - 1)),
-            4 => self.half_edge(
-                Square {
-                    column,
-                    row: row + 1,
-                },
-                0,
-            ),
-=======
             BOTTOM if row == 0 => None,
             BOTTOM => self.half_edge(column, row - 1, TOP),
             RIGHT => self.half_edge(column + 1, row, LEFT),
             DOWN => Some(HalfEdgeId(h.0 + 1)),
             UP => Some(HalfEdgeId(h.0 - 1)),
             TOP => self.half_edge(column, row + 1, BOTTOM),
->>>>>>> 4300f57d9a43aadb317ea7e4567df3283e861cb8
             _ if column == 0 => None,
             _ => self.half_edge(column - 1, row, RIGHT),
         }

@@ -4,13 +4,12 @@
 use mathlib.Core.Path.{_≡_, refl, sym, ap, _∙_, subst}
 use mathlib.Core.List.{List, [], _∷_}
 use mathlib.Core.Logic.{_⊎_, inl, inr}
-use Prim.Native.Nat.{ℕ, zero, suc, _+_, _-_, _<_, _%_}
+use Prim.Native.Nat.{_+_, _-_, _%_}
 use native.Mathlib.Omega.{arith}
 use Rattle.std.specs.declared.option.Option.the-variants.{Some}
 use Rattle.base.specs.declared.ids.HalfEdgeId.{HalfEdgeId}
 use Rattle.base.specs.declared.ids.VertexId.{VertexId}
 use Rattle.base.specs.Ids.{vertex, triangle, half-edge, triangle-of, next, previous}
-use Rattle.algebra.specs.Arithmetic.{OrderLaws}
 use Rattle.algebra.specs.Number.{Number, Positive, quadratics}
 use Rattle.algebra.proofs.OrderedRing.{pos-eq}
 use Rattle.algebra.proofs.Quadratics.{ordered-ring, quadratic-ring}

@@ -5,3 +5,6 @@ pub mod Crossings
 pub mod RunFans
 pub mod Sleeves
 pub mod WalkParts
+pub mod ShorterPaths
+pub mod ShortestOfAll
+pub mod WaysBack

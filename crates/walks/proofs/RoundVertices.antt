@@ -2,7 +2,7 @@
 -- From the first corner of a fan this is the rule on full turns; from any later corner it is a part of that fan; to the right it is the same fan read from its other end.
 use mathlib.Core.Path.{_≡_, refl, sym, ap, _∙_, subst}
 use mathlib.Core.List.{List, [], _∷_, reverse, reverseAux, reverse-reverse}
-use mathlib.Core.Logic.{_⊎_, inl, inr}
+use mathlib.Core.Logic.{inl, inr}
 use Rattle.std.specs.declared.option.Option.the-variants.{Some}
 use Rattle.base.specs.declared.ids.HalfEdgeId.{HalfEdgeId}
 use Rattle.base.specs.Ids.{next, previous}
@@ -17,7 +17,7 @@ use Rattle.taut.proofs.FanParts.{fan-tail, fan-reverse}
 use Rattle.mesh.specs.Surface.{Surface, Has, spot, on, Later, one, more}
 use Rattle.mesh.specs.Sound.{Sound}
 use Rattle.mesh.specs.Stages.{Starts, InFan}
-use Rattle.mesh.proofs.FanSteps.{next-previous, previous-within, on-within, later-within, fan-within, fan-on, opens-fan}
+use Rattle.mesh.proofs.FanSteps.{next-previous, previous-within, later-within, fan-within, fan-on, opens-fan}
 use Rattle.walks.proofs.TurnSigns.{_⟶_, not-right}
 use Rattle.walks.proofs.Triangles.{near, far, corner-turns}
 

@@ -3,7 +3,6 @@
 use mathlib.Core.Path.{_≡_, refl, sym, ap, _∙_, subst}
 use mathlib.Core.List.{List, [], _∷_, _++_}
 use mathlib.Core.Logic.{_⊎_, inl, inr}
-use Prim.Native.Nat.{_<_}
 use native.Mathlib.Omega.{arith}
 use Rattle.std.proofs.shelf.Lists.{append-assoc}
 use Rattle.std.specs.declared.option.Option.the-variants.{Some}
@@ -18,13 +17,12 @@ use Rattle.words.specs.declared.sorts.Crossing.{Crossing}
 use Rattle.words.specs.Sorts.{recrossed}
 use Rattle.words.specs.Words.{Reduced}
 use Rattle.taut.specs.declared.Side.{Side}
-use Rattle.taut.specs.declared.Side.the-variants.{Left, Right}
 use Rattle.taut.specs.Sleeve.{other, Portal, end, veer, Keeps}
 use Rattle.taut.specs.Fan.{Sector, Fan, Run, ends, leaves, goes-on, Round, Later-rounds, FanBound}
 use Rattle.taut.proofs.FanParts.{fan-first, fan-last}
-use Rattle.mesh.specs.Surface.{Surface, Has, spot}
+use Rattle.mesh.specs.Surface.{Surface, spot}
 use Rattle.mesh.specs.Sound.{Sound}
-use Rattle.walks.specs.Walks.{Walk, vertex-at, portal-of, portals, Inside}
+use Rattle.walks.specs.Walks.{Walk, portal-of, portals, Inside}
 use Rattle.walks.proofs.TurnSigns.{_⟶_}
 use Rattle.walks.proofs.Triangles.{near, far, inside-near, inside-far}
 use Rattle.walks.proofs.RoundVertices.{Follows, Round-on, fars, row, round-fan}

@@ -1,11 +1,10 @@
 -- The portals of a reduced walk between terminals make a sleeve, and its runs make fans (`sleeve-law`); so it has exactly one taut string (`exactly-one`).
-use mathlib.Core.Path.{_≡_, sym, ap, subst}
+use mathlib.Core.Path.{sym, ap, subst}
 use mathlib.Core.List.{List, [], _∷_}
-use Prim.Native.Nat.{_<_}
 use native.Mathlib.Omega.{arith}
 use Rattle.base.specs.declared.ids.TriangleId.{TriangleId}
 use Rattle.base.specs.Ids.{triangle-of, next}
-use Rattle.algebra.specs.Number.{Positive, quadratics, sign}
+use Rattle.algebra.specs.Number.{quadratics, sign}
 use Rattle.algebra.proofs.OrderedRing.{pos-eq}
 use Rattle.algebra.proofs.Quadratics.{quadratic-ring}
 use Rattle.geometry.specs.Plane.{Point}

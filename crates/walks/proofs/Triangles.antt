@@ -7,7 +7,7 @@ use Prim.Native.Nat.{ℕ, zero, suc, _<_, _%_}
 use native.Mathlib.Omega.{arith}
 use Rattle.base.specs.declared.ids.TriangleId.{TriangleId}
 use Rattle.base.specs.declared.ids.HalfEdgeId.{HalfEdgeId}
-use Rattle.base.specs.Ids.{half-edge, side, triangle-of, index, next, previous}
+use Rattle.base.specs.Ids.{triangle, half-edge, side, triangle-of, next, previous}
 use Rattle.algebra.specs.Number.{Positive, quadratics}
 use Rattle.algebra.proofs.OrderedRing.{pos-eq}
 use Rattle.algebra.proofs.Quadratics.{quadratic-ring}
@@ -91,7 +91,7 @@ module _ (f : Surface) where
       turned-on (spot f (previous h)) (spot f h) p (subst (λ n. Turned (spot f (previous h)) (spot f n) p) (next-previous h) back)
     where
       ap-triangle : (h : HalfEdgeId) (t : TriangleId) → triangle-of h ≡ t → triangle-of (previous h) ≡ t
-      ap-triangle h t e = let q = ap (λ x. x .0) e in ap (λ n. record { 0 = n }) (omega arith)
+      ap-triangle h t e = let q = ap (λ x. x .0) e in ap triangle (omega arith)
 
   pub inside-far : (t : TriangleId) (p : Point) → Inside f t p → (h : HalfEdgeId) → triangle-of h ≡ t → (r : Side) → Positive (veer quadratics r (spot f h ⟶ p) (spot f h ⟶ spot f (far r h)))
   inside-far t p i h e Left = inside-near t p i h e Right

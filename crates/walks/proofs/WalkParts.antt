@@ -7,15 +7,16 @@ use native.Mathlib.Omega.{arith}
 use Rattle.std.specs.declared.option.Option.the-variants.{Some}
 use Rattle.base.specs.declared.ids.TriangleId.{TriangleId}
 use Rattle.base.specs.Ids.{triangle-of}
+use Rattle.geometry.specs.Plane.{Point}
 use Rattle.words.specs.declared.sorts.Crossing.{Crossing}
 use Rattle.words.specs.Sorts.{recrossed, same-crossing}
 use Rattle.words.specs.Words.{Homotopic, added, adding, reduction}
 use Rattle.words.proofs.LastLetters.{cancels, appends, way}
-use Rattle.words.proofs.EqualReductions.{equal-reductions}
+use Rattle.words.proofs.EqualReductions.{reduced-reduction, equal-reductions}
 use Rattle.words.proofs.LawfulSorts.{crossing-lawful}
 use Rattle.mesh.specs.Surface.{Surface, Has}
 use Rattle.mesh.specs.Sound.{Paired, AtEach}
-use Rattle.walks.specs.Walks.{Walk, arrival, way-back}
+use Rattle.walks.specs.Walks.{Walk, arrival, way-back, Inside, Joins}
 use Rattle.walks.specs.Laws.{WalkLaws}
 
 module _ (f : Surface) where
@@ -53,6 +54,9 @@ module _ (f : Surface) where
   pub walk-reduced : (t u : TriangleId) (w : List Crossing) → Walk f t w u → Walk f t (reduction recrossed same-crossing w) u
   walk-reduced t u w h = walk-adding t t u [] w refl h
 
+  pub walk-joins : (t u : TriangleId) (s e : Point) (w : List Crossing) → t .0 < f .F → Inside f t s → Walk f t w u → Inside f u e → Joins f t s (reduction recrossed same-crossing w) u e
+  walk-joins t u s e w h start k finish = record { within = h; start = start; walk = walk-reduced t u w k; finish = finish; reduced = reduced-reduction recrossed same-crossing crossing-lawful w }
+
   pub walk-homotopic : (t u u′ : TriangleId) (v w : List Crossing) → Homotopic recrossed v w → Walk f t v u → Walk f t w u′ → u ≡ u′
   walk-homotopic t u u′ v w e h k =
       sym (walk-arrives t u (reduction recrossed same-crossing v) (walk-reduced t u v h))
@@ -60,13 +64,13 @@ module _ (f : Surface) where
       ∙ walk-arrives t u′ (reduction recrossed same-crossing w) (walk-reduced t u′ w k)
 
   module _ (pairs : AtEach f Paired) where
-    left-within : (t : TriangleId) (c : Crossing) → t .0 < f .F → triangle-of (c .left) ≡ t → Has f (c .left)
+    pub left-within : (t : TriangleId) (c : Crossing) → t .0 < f .F → triangle-of (c .left) ≡ t → Has f (c .left)
     left-within t c h e = let q = ap (λ x. x .0) e in omega arith
 
     twin-back : (t : TriangleId) (c : Crossing) → t .0 < f .F → triangle-of (c .left) ≡ t → f .twin (c .left) ≡ Some (c .entered) → f .twin (c .entered) ≡ Some (c .left)
     twin-back t c h e k = pairs (c .left) (left-within t c h e) (c .entered) k .back
 
-    entered-below : (t : TriangleId) (c : Crossing) → t .0 < f .F → triangle-of (c .left) ≡ t → f .twin (c .left) ≡ Some (c .entered) → triangle-of (c .entered) .0 < f .F
+    pub entered-below : (t : TriangleId) (c : Crossing) → t .0 < f .F → triangle-of (c .left) ≡ t → f .twin (c .left) ≡ Some (c .entered) → triangle-of (c .entered) .0 < f .F
     entered-below t c h e k = let w : Has f (c .entered) = pairs (c .left) (left-within t c h e) (c .entered) k .within in omega arith
 
     pub walk-within : (t u : TriangleId) (w : List Crossing) → t .0 < f .F → Walk f t w u → u .0 < f .F
@@ -99,6 +103,7 @@ walk-laws f sound = record {
   spur-out = walk-spur-out f;
   one-more = walk-one-more f;
   reduced = walk-reduced f;
+  joins = walk-joins f;
   homotopic = walk-homotopic f;
   walked-back = walk-back f (sound .twins);
 }

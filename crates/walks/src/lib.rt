@@ -1,5 +1,5 @@
 // Walks from triangle to triangle on a surface: their portals, and what holds of their taut strings. Each call is a statement with its proof; what it returns says nothing.
-ghost use Rattle.walks.specs.Laws.{SleeveLaw, ExactlyOne, WalkLaws};
+ghost use Rattle.walks.specs.Laws.{WalkLaws, SleeveLaw, ExactlyOne, ShortestOfAll, BackLaw};
 
 // Walks are joined, parted, reduced and walked back.
 pub fn walks_stand() -> u8
@@ -18,6 +18,20 @@ pub fn sleeves_stand() -> u8
 // It has one taut string and no other.
 pub fn exactly_one_stands() -> u8
     ensures { λ _. ⌜ ExactlyOne ⌝ }
+{
+    0
+}
+
+// No path of homotopic crossings is shorter than that string, under any gauge.
+pub fn shortest_stand() -> u8
+    ensures { λ _. ⌜ ShortestOfAll ⌝ }
+{
+    0
+}
+
+// Walked back, it has the same string read backwards.
+pub fn ways_back_stand() -> u8
+    ensures { λ _. ⌜ BackLaw ⌝ }
 {
     0
 }
