@@ -144,7 +144,7 @@ impl Refusal {
         }
     }
 
-    // What is wrong, in words that need no number.
+    // What is wrong, in words that need no number; of the two faults of a fan, what the triangles round its vertex do.
     fn words(self) -> &'static str {
         match self {
             Refusal::MeshLimits =>
@@ -162,11 +162,11 @@ impl Refusal {
             Refusal::ClosedFan {
                 corner: _,
                 vertex: _,
-            } => "the triangles round this vertex close up and never reach the boundary",
+            } => "close up and never reach the boundary",
             Refusal::FullTurn {
                 corner: _,
                 vertex: _,
-            } => "the triangles round this vertex turn all the way round it",
+            } => "turn all the way round it",
             Refusal::SheetRange {
                 parameter: SheetParameter::Columns,
             } => "a sheet has at most 25 columns of holes",
@@ -200,6 +200,15 @@ pub impl fmt::Display for Refusal as RefusalDisplay {
         let number = self.number();
         let place = self.place();
         let words = self.words();
-        write!(f, "refused {number} at {place}: {words}")
+        match *self {
+            Refusal::ClosedFan { corner: _, vertex } | Refusal::FullTurn { corner: _, vertex } => {
+                let vertex = vertex.0;
+                write!(
+                    f,
+                    "refused {number} at {place}: the triangles round vertex {vertex} {words}"
+                )
+            }
+            _ => write!(f, "refused {number} at {place}: {words}"),
+        }
     }
 }

@@ -1,38 +1,45 @@
 // The commands of a script, one to a line.
-use geometry::IntegerRow;
-use geometry::QuadraticRow;
+use crate::rows::Kind;
+use crate::rows::PointRow;
+use crate::rows::TriangleRow;
+use crate::rows::point_row;
+use crate::rows::triangle_row;
 use std::alloc::AllocError;
 use std::alloc::Global;
-
-#[derive(Clone, Copy)]
-pub enum Kind {
-    Integer,
-    Quadratic,
-}
 
 #[derive(Clone, Copy)]
 pub enum Command {
     Pass,
     SetKind(Kind),
-    AddInteger(IntegerRow),
-    AddQuadratic(QuadraticRow),
+    AddPoint(PointRow),
     Measure,
+    BeginMesh(Kind),
+    AddVertex(PointRow),
+    AddTriangle(TriangleRow),
+    Check,
+}
+
+// The kind of the row of points, and that of the mesh that is described, if one is.
+#[derive(Clone, Copy)]
+pub struct Kinds {
+    pub row: Kind,
+    pub mesh: Option<Kind>,
 }
 
 // A line that is no command says what was expected in its place.
 pub(crate) fn parse(
     heap: Global,
     line: &str,
-    kind: Kind,
+    kinds: Kinds,
 ) -> Result<Result<Command, &'static str>, AllocError> {
     let mut words: Vec<&str> = Vec::new(heap);
     for word in line.split_whitespace() {
         words.push(word)?;
     }
-    Ok(command_of(words.as_slice(), kind))
+    Ok(command_of(words.as_slice(), kinds))
 }
 
-fn command_of(words: &[&str], kind: Kind) -> Result<Command, &'static str> {
+fn command_of(words: &[&str], kinds: Kinds) -> Result<Command, &'static str> {
     let [name, arguments @ ..] = words else {
         return Ok(Command::Pass);
     };
@@ -42,62 +49,80 @@ fn command_of(words: &[&str], kind: Kind) -> Result<Command, &'static str> {
     }
     match name {
         "kind" => set_kind(arguments),
-        "point" => add_point(arguments, kind),
-        "measure" => measure(arguments),
-        _ => Err("one of the commands kind, point and measure"),
+        "point" => add_point(arguments, kinds.row),
+        "measure" => alone(arguments, Command::Measure, "measure with nothing after it"),
+        "mesh" => begin_mesh(arguments),
+        "vertex" | "triangle" | "check" => match kinds.mesh {
+            Some(kind) => describe(name, arguments, kind),
+            None => Err("mesh integer or mesh quadratic before the first of its lines"),
+        },
+        _ => Err("one of the commands kind, point, measure, mesh, vertex, triangle and check"),
+    }
+}
+
+// The lines of a mesh that has been begun.
+fn describe(name: &str, arguments: &[&str], kind: Kind) -> Result<Command, &'static str> {
+    match name {
+        "vertex" => add_vertex(arguments, kind),
+        "triangle" => add_triangle(arguments),
+        _ => alone(arguments, Command::Check, "check with nothing after it"),
+    }
+}
+
+fn alone(
+    arguments: &[&str],
+    command: Command,
+    expected: &'static str,
+) -> Result<Command, &'static str> {
+    match arguments {
+        [] => Ok(command),
+        _ => Err(expected),
+    }
+}
+
+fn kind_of(arguments: &[&str]) -> Option<Kind> {
+    match arguments {
+        ["integer"] => Some(Kind::Integer),
+        ["quadratic"] => Some(Kind::Quadratic),
+        _ => None,
     }
 }
 
 fn set_kind(arguments: &[&str]) -> Result<Command, &'static str> {
-    match arguments {
-        ["integer"] => Ok(Command::SetKind(Kind::Integer)),
-        ["quadratic"] => Ok(Command::SetKind(Kind::Quadratic)),
-        _ => Err("kind integer or kind quadratic"),
+    match kind_of(arguments) {
+        Some(kind) => Ok(Command::SetKind(kind)),
+        None => Err("kind integer or kind quadratic"),
     }
 }
 
-fn measure(arguments: &[&str]) -> Result<Command, &'static str> {
-    match arguments {
-        [] => Ok(Command::Measure),
-        _ => Err("measure with nothing after it"),
+fn begin_mesh(arguments: &[&str]) -> Result<Command, &'static str> {
+    match kind_of(arguments) {
+        Some(kind) => Ok(Command::BeginMesh(kind)),
+        None => Err("mesh integer or mesh quadratic"),
     }
 }
 
 fn add_point(arguments: &[&str], kind: Kind) -> Result<Command, &'static str> {
-    match kind {
-        Kind::Integer => match integer_row(arguments) {
-            Some(row) => Ok(Command::AddInteger(row)),
-            None => Err("point X Y with two whole numbers of 32 bits"),
-        },
-        Kind::Quadratic => match quadratic_row(arguments) {
-            Some(row) => Ok(Command::AddQuadratic(row)),
-            None => Err("point XP XQ YP YQ with four whole numbers of 32 bits"),
-        },
+    match (point_row(arguments, kind), kind) {
+        (Some(row), _) => Ok(Command::AddPoint(row)),
+        (None, Kind::Integer) => Err("point X Y with two whole numbers of 32 bits"),
+        (None, Kind::Quadratic) => Err("point XP XQ YP YQ with four whole numbers of 32 bits"),
     }
 }
 
-fn integer_row(arguments: &[&str]) -> Option<IntegerRow> {
-    let [x, y] = arguments else {
-        return None;
-    };
-    Some(IntegerRow {
-        x: whole(*x)?,
-        y: whole(*y)?,
-    })
+fn add_vertex(arguments: &[&str], kind: Kind) -> Result<Command, &'static str> {
+    match (point_row(arguments, kind), kind) {
+        (Some(row), _) => Ok(Command::AddVertex(row)),
+        (None, Kind::Integer) => Err("vertex X Y with two whole numbers of 32 bits"),
+        (None, Kind::Quadratic) => Err("vertex XP XQ YP YQ with four whole numbers of 32 bits"),
+    }
 }
 
-fn quadratic_row(arguments: &[&str]) -> Option<QuadraticRow> {
-    let [xp, xq, yp, yq] = arguments else {
-        return None;
-    };
-    Some(QuadraticRow {
-        xp: whole(*xp)?,
-        xq: whole(*xq)?,
-        yp: whole(*yp)?,
-        yq: whole(*yq)?,
-    })
-}
-
-fn whole(word: &str) -> Option<i32> {
-    word.parse::<i32>().ok()
+fn add_triangle(arguments: &[&str]) -> Result<Command, &'static str> {
+    match triangle_row(arguments) {
+        Some(row) => Ok(Command::AddTriangle(row)),
+        None => Err(
+            "triangle C0 C1 C2 A0 A1 A2 with whole numbers from 0 to 65535, and - across the boundary",
+        ),
+    }
 }

@@ -1,13 +1,17 @@
 // Reads a script from standard input, does what each line says, and prints each action.
 mod command;
+mod described;
+mod points;
+mod rows;
 mod session;
+mod stop;
 mod text;
 
 use session::Session;
-use session::Stop;
 use std::error::AnyError;
 use std::io::BufRead;
 use std::io::BufReader;
+use stop::Stop;
 
 fn main(rt: LibcRuntime) -> Result<(), AnyError> {
     let heap = rt.alloc();

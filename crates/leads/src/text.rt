@@ -1,8 +1,8 @@
-// How numbers, points and turns are written.
+// How numbers, kinds and turns are written.
+use crate::rows::Kind;
 use coordinates::Coordinate;
 use gauge::Length;
 use geometry::Turn;
-use geometry::kinds::PointKind;
 use std::fmt;
 
 // p + q√2; a part that is 0 is left out, unless both are.
@@ -45,5 +45,12 @@ pub(crate) fn turn_word(turn: Turn) -> &'static str {
         Turn::Left => "left",
         Turn::Straight => "straight",
         Turn::Right => "right",
+    }
+}
+
+pub(crate) fn kind_word(kind: Kind) -> &'static str {
+    match kind {
+        Kind::Integer => "integer",
+        Kind::Quadratic => "quadratic",
     }
 }

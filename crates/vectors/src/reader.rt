@@ -1,4 +1,5 @@
 // The form that all vector files have: cases of some lines each, and words on a line.
+use std::alloc::AllocError;
 use std::alloc::Global;
 use std::error::AnyError;
 use std::error::Error;
@@ -85,6 +86,25 @@ impl Case {
             Err(self.malformed(i, mark))
         }
     }
+
+    // Line `i` is the last.
+    pub fn ends_after(&self, i: usize) -> Result<(), Malformed> {
+        let end = i.saturating_add(1);
+        if self.lines.len() > end {
+            Err(self.malformed(end, "done"))
+        } else {
+            Ok(())
+        }
+    }
+}
+
+// The words of a text.
+pub fn words(heap: Global, text: &str) -> Result<Vec<&str>, AllocError> {
+    let mut words: Vec<&str> = Vec::new(heap);
+    for word in text.split_whitespace() {
+        words.push(word)?;
+    }
+    Ok(words)
 }
 
 // The first word of a line, and what follows it.

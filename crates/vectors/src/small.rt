@@ -17,13 +17,7 @@ use words::sorts::CrossingLetter;
 use words::sorts::Generator;
 use words::sorts::GeneratorLetter;
 
-// Cases of a higher level speak of changes that are not known here.
-const LEVEL: u32 = 0;
-
 pub fn run(heap: Global, case: &Case) -> Result<Outcome, AnyError> {
-    if case.level > LEVEL {
-        return Ok(Outcome::Skipped);
-    }
     let (kind, rest) = first_word(case.line(0, "letters, doors, deque or sign")?);
     match kind {
         "letters" => letters(heap, case, rest),
@@ -37,9 +31,7 @@ pub fn run(heap: Global, case: &Case) -> Result<Outcome, AnyError> {
 // Whether the second line answers `got`.
 fn compared(heap: Global, case: &Case, got: String) -> Result<Outcome, AnyError> {
     let expected = case.after(1, "answer")?;
-    if case.lines.len() != 2 {
-        return Err(case.malformed(2, "done").into());
-    }
+    case.ends_after(1)?;
     if expected == got.as_str() {
         return Ok(Outcome::Agrees);
     }
