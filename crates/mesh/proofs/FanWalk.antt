@@ -4,22 +4,16 @@ use mathlib.Core.List.{List}
 use mathlib.Core.Logic.{_⊎_, inl, inr}
 use mathlib.Core.Bool.{Bool, true, false}
 use Prim.Native.Nat.{ℕ, _<_, _≤_}
-use lib.ListN.{length, getD, set}
+use lib.ListN.{length, set}
 use native.Mathlib.Omega.{arith}
-use Rattle.std.specs.declared.option.Option.{Option}
 use Rattle.std.specs.declared.option.Option.the-variants.{Some, None}
 use Rattle.base.specs.declared.ids.HalfEdgeId.{HalfEdgeId}
-use Rattle.base.specs.Ids.{half-edge, boundary, leads, next, previous}
+use Rattle.base.specs.Ids.{half-edge, next, previous}
 use Rattle.mesh.specs.Surface.{Surface, Has, on, Later, one, more, Covers}
 use Rattle.mesh.specs.Sound.{Paired, AtEach}
-use Rattle.mesh.specs.Lists.{Lists, listed}
 use Rattle.mesh.specs.Stages.{Starts, InFan, Marked, Fresh, Fanned}
 use Rattle.mesh.proofs.FanSteps.{next-previous, previous-same, some-same, some-none, later-none, later-split, back, on-within, fan-on}
 use Rattle.mesh.proofs.Marks.{mark-this, mark-old, mark-which}
-
--- what the code reads across the side before h is the corner that follows
-pub read-on : (l : Lists) (h q : HalfEdgeId) (o : Option HalfEdgeId) → l .triangles ≤ 4096 → Has (listed l) h → (h .0 < 65535 → q ≡ previous h) → o ≡ leads (getD (l .across) (q .0) boundary) → on (listed l) h ≡ o
-read-on l h q o few w turned led = ap (λ k. leads (getD (l .across) (k .0) boundary)) (sym (turned (omega arith))) ∙ sym led
 
 -- the walk from s has come to h: before it the marks were m₀, now they are m, and r is the smallest corner so far that comes round, or n
 pub record Walking (f : Surface) (s : HalfEdgeId) (n : ℕ) (m₀ m : List Bool) (h : HalfEdgeId) (r : ℕ) : Type 0 where

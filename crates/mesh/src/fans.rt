@@ -9,7 +9,7 @@ ghost use Rattle.std.specs.Orderings.{Decides};
 ghost use Rattle.std.specs.declared.option.Option.the-variants.{None};
 ghost use Rattle.base.specs.Ids.{half-edge as halfEdge};
 ghost use Rattle.base.specs.declared.ids.HalfEdgeId.{HalfEdgeId as Corner};
-ghost use Rattle.mesh.specs.Surface.{Covers};
+ghost use Rattle.mesh.specs.Surface.{on, Covers};
 ghost use Rattle.mesh.specs.Sound.{FallsShort};
 ghost use Rattle.mesh.specs.Lists.{lists, listed};
 ghost use Rattle.mesh.specs.Stages.{Readable, Walkable, Starts, Fresh, Fanned, Marked, WalkedTo, Walked};
@@ -65,6 +65,15 @@ fn lowered<P: PointKind>(
     if h.place() < least { h.place() } else { least }
 }
 
+// The corner that follows in the fan of h: across the side that runs into h.
+fn following(triangles: usize, across: &[HalfEdgeId], h: HalfEdgeId) -> Option<HalfEdgeId>
+    requires sized { ⌜ (triangles ≤ 4096) × (length (now across) ≡ 3 * triangles) ⌝ }
+    requires there { ⌜ h .0 < 3 * triangles ⌝ }
+    ensures { λ r. ⌜ r ≡ on (listed (lists triangles [] [] (now (across .entry)))) h ⌝ }
+{
+    twin_of(across, h.previous())
+}
+
 fn mark(opened: &mut [bool], h: HalfEdgeId)
     requires { ⌜ h .0 < length (now opened) ⌝ }
     ensures { λ _. ⌜ now (opened .exit) ≡ set (now (opened .entry)) (h .0) true ⌝ }
@@ -91,7 +100,7 @@ fn walk_fan<P: PointKind>(
     let mut least = 3 * triangles;
     let mut h = first;
     mark(opened, h);
-    while let Some(d) = twin_of(across, h.previous()) {
+    while let Some(d) = following(triangles, across, h) {
         h = d;
         mark(opened, h);
         least = lowered::<P>(triangles, rows, corners, first, h, least);

@@ -9,7 +9,7 @@ use Rattle.mesh.specs.Lists.{lists, listed}
 use Rattle.mesh.specs.Stages.{Fanned}
 use Rattle.mesh.proofs.FanSteps.{on-within}
 use Rattle.mesh.proofs.Marks.{unmarked, fewer}
-use Rattle.mesh.proofs.FanWalk.{Walking, read-on, begin, step, ended, whole}
+use Rattle.mesh.proofs.FanWalk.{Walking, begin, step, ended, whole}
 use Rattle.mesh.proofs.fans.walk_fan.Needs as need
 
 pub loop-d-holds : need.loop-d-holds
@@ -18,27 +18,22 @@ loop-d-holds g c =
     subst (λ m. Walking (listed l) (c .args .first) (3 * c .args .triangles) m m (c .args .first) (3 * c .args .triangles)) (sym (c .mark .ensures))
     (begin (listed l) (c .pre .walkable .twins) (c .args .first) (3 * c .args .triangles) (c .args .opened .now) (c .pre .starts) (c .pre .fresh) (omega (arith, c .pre .starts .has, c .pre .room)))
 
-pub twin-of-requires : need.twin-of-requires
-twin-of-requires g c κs =
-    let small : c .loop-d .h .0 < 65535 = omega (arith, c .loop-d .inv .has, c .pre .readable .few) in
-    omega (arith, ap (λ h. h .0) (c .previous .ensures .turned small), c .loop-d .inv .has, c .pre .walkable .all-sides)
-
 pub mark-requires-in-Some : need.mark-requires-in-Some
 mark-requires-in-Some g c κs =
     let l = lists (c .args .triangles) (map (g .P·PointKind .written) (c .args .rows .now)) (c .args .corners .now) (c .args .across .now) in
-    let onward = read-on l (c .loop-d .h) (c .previous .result) (Some (c .in-Some .d)) (c .pre .readable .few) (c .loop-d .inv .has) (c .previous .ensures .turned) (c .in-Some .ensures tt) in
+    let onward = sym (c .in-Some .ensures tt) in
     omega (arith, on-within (listed l) (c .pre .walkable .twins) (c .loop-d .h) (c .in-Some .d) (c .loop-d .inv .has) onward, c .loop-d .kept .opened, c .mark .kept .opened, c .pre .room)
 
 pub lowered-least-requires : need.lowered-least-requires
 lowered-least-requires g c κs =
     let l = lists (c .args .triangles) (map (g .P·PointKind .written) (c .args .rows .now)) (c .args .corners .now) (c .args .across .now) in
-    let onward = read-on l (c .loop-d .h) (c .previous .result) (Some (c .in-Some .d)) (c .pre .readable .few) (c .loop-d .inv .has) (c .previous .ensures .turned) (c .in-Some .ensures tt) in
+    let onward = sym (c .in-Some .ensures tt) in
     record { readable = c .pre .readable; there = (c .pre .starts .has, on-within (listed l) (c .pre .walkable .twins) (c .loop-d .h) (c .in-Some .d) (c .loop-d .inv .has) onward) }
 
 pub loop-d-less : need.loop-d-less
 loop-d-less g c =
     let l = lists (c .args .triangles) (map (g .P·PointKind .written) (c .args .rows .now)) (c .args .corners .now) (c .args .across .now) in
-    let onward = read-on l (c .loop-d .h) (c .previous .result) (Some (c .in-Some .d)) (c .pre .readable .few) (c .loop-d .inv .has) (c .previous .ensures .turned) (c .in-Some .ensures tt) in
+    let onward = sym (c .in-Some .ensures tt) in
     let room : c .in-Some .d .0 < length (c .loop-d .opened) =
     omega (arith, on-within (listed l) (c .pre .walkable .twins) (c .loop-d .h) (c .in-Some .d) (c .loop-d .inv .has) onward, c .loop-d .kept .opened, c .mark .kept .opened, c .pre .room) in
     subst (λ m. unmarked m < unmarked (c .loop-d .opened)) (sym (c .mark-in-Some .ensures))
@@ -47,7 +42,7 @@ loop-d-less g c =
 pub loop-d-again : need.loop-d-again
 loop-d-again g c =
     let l = lists (c .args .triangles) (map (g .P·PointKind .written) (c .args .rows .now)) (c .args .corners .now) (c .args .across .now) in
-    let onward = read-on l (c .loop-d .h) (c .previous .result) (Some (c .in-Some .d)) (c .pre .readable .few) (c .loop-d .inv .has) (c .previous .ensures .turned) (c .in-Some .ensures tt) in
+    let onward = sym (c .in-Some .ensures tt) in
     let room : c .in-Some .d .0 < length (c .loop-d .opened) =
     omega (arith, on-within (listed l) (c .pre .walkable .twins) (c .loop-d .h) (c .in-Some .d) (c .loop-d .inv .has) onward, c .loop-d .kept .opened, c .mark .kept .opened, c .pre .room) in
     subst (λ m. Walking (listed l) (c .args .first) (3 * c .args .triangles) (c .mark .last .opened) m (c .in-Some .d) (c .lowered-least .result)) (sym (c .mark-in-Some .ensures))
@@ -57,7 +52,7 @@ loop-d-again g c =
 pub returns : need.returns
 returns g c =
     let l = lists (c .args .triangles) (map (g .P·PointKind .written) (c .args .rows .now)) (c .args .corners .now) (c .args .across .now) in
-    let stop = read-on l (c .loop-d .h) (c .previous .result) None (c .pre .readable .few) (c .loop-d .inv .has) (c .previous .ensures .turned) (c .in-rest .ensures tt) in
+    let stop = sym (c .in-rest .ensures tt) in
     let all = ended (listed l) (c .pre .walkable .twins) (c .args .first) (3 * c .args .triangles) (c .mark .last .opened) (c .loop-d .opened) (c .loop-d .h) (c .loop-d .least) (c .loop-d .inv) stop in
     whole (listed l) (c .pre .walkable .twins) (c .args .first) (3 * c .args .triangles) (c .args .opened .now) (c .loop-d .opened) (c .loop-d .least) (omega (arith, c .pre .starts .has, c .pre .room))
     (subst (λ m. Fanned (listed l) (c .args .first) (3 * c .args .triangles) m (c .loop-d .opened) (c .loop-d .least)) (c .mark .ensures) all)
