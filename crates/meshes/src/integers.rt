@@ -1,11 +1,9 @@
 // A mesh of points with whole coordinates that reads lent lists: rows of coordinates, and a corner and a code across for each half-edge.
-ghost use mathlib.Core.Path.{_≡_};
 ghost use mathlib.Core.List.{map};
 ghost use denote.Ref.{now as behind};
 ghost use Rattle.geometry.specs.Points.{integer-row as integerRow};
 ghost use Rattle.mesh.specs.Lists.{lists, listed};
-ghost use Rattle.mesh.specs.Verdict.{Accepted};
-ghost use Rattle.surfaces.specs.Lawful.{Vetted, no-lists as noLists};
+ghost use Rattle.surfaces.specs.Lawful.{Vetted, Holds};
 ghost use Rattle.surfaces.proofs.ListedLawful.{vetted-lawful};
 use crate::Mesh;
 use crate::lists::corners_at;
@@ -36,8 +34,7 @@ impl<'a> IntegerMesh<'a> {
         corners: &'a [VertexId],
         across: &'a [HalfEdgeId],
     ) -> IntegerMesh<'a>
-        ensures accepted { λ r. ⌜ (Accepted (lists triangles (map integerRow (now (rows .entry))) (now (corners .entry)) (now (across .entry))) → lists (r .triangles) (map integerRow (behind (r .rows))) (behind (r .corners)) (behind (r .across)) ≡ lists triangles (map integerRow (now (rows .entry))) (now (corners .entry)) (now (across .entry))) ⌝ }
-        ensures refused { λ r. ⌜ ((Accepted (lists triangles (map integerRow (now (rows .entry))) (now (corners .entry)) (now (across .entry))) → ⊥) → lists (r .triangles) (map integerRow (behind (r .rows))) (behind (r .corners)) (behind (r .across)) ≡ noLists) ⌝ }
+        ensures { λ r. ⌜ Holds (lists triangles (map integerRow (now (rows .entry))) (now (corners .entry)) (now (across .entry))) (lists (r .triangles) (map integerRow (behind (r .rows))) (behind (r .corners)) (behind (r .across))) ⌝ }
     {
         match validate::<IntegerPoint>(triangles, rows, corners, across) {
             Ok(()) => {}

@@ -1,11 +1,9 @@
 // A mesh of points whose coordinates have both parts, and that reads lent lists: rows of coordinates, and a corner and a code across for each half-edge.
-ghost use mathlib.Core.Path.{_≡_};
 ghost use mathlib.Core.List.{map};
 ghost use denote.Ref.{now as behind};
 ghost use Rattle.geometry.specs.Points.{quadratic-row as quadraticRow};
 ghost use Rattle.mesh.specs.Lists.{lists, listed};
-ghost use Rattle.mesh.specs.Verdict.{Accepted};
-ghost use Rattle.surfaces.specs.Lawful.{Vetted, no-lists as noLists};
+ghost use Rattle.surfaces.specs.Lawful.{Vetted, Holds};
 ghost use Rattle.surfaces.proofs.ListedLawful.{vetted-lawful};
 use crate::Mesh;
 use crate::lists::corners_at;
@@ -37,8 +35,7 @@ impl<'a> QuadraticMesh<'a> {
         corners: &'a [VertexId],
         across: &'a [HalfEdgeId],
     ) -> QuadraticMesh<'a>
-        ensures accepted { λ r. ⌜ (Accepted (lists triangles (map quadraticRow (now (rows .entry))) (now (corners .entry)) (now (across .entry))) → lists (r .triangles) (map quadraticRow (behind (r .rows))) (behind (r .corners)) (behind (r .across)) ≡ lists triangles (map quadraticRow (now (rows .entry))) (now (corners .entry)) (now (across .entry))) ⌝ }
-        ensures refused { λ r. ⌜ ((Accepted (lists triangles (map quadraticRow (now (rows .entry))) (now (corners .entry)) (now (across .entry))) → ⊥) → lists (r .triangles) (map quadraticRow (behind (r .rows))) (behind (r .corners)) (behind (r .across)) ≡ noLists) ⌝ }
+        ensures { λ r. ⌜ Holds (lists triangles (map quadraticRow (now (rows .entry))) (now (corners .entry)) (now (across .entry))) (lists (r .triangles) (map quadraticRow (behind (r .rows))) (behind (r .corners)) (behind (r .across))) ⌝ }
     {
         match validate::<QuadraticPoint>(triangles, rows, corners, across) {
             Ok(()) => {}

@@ -1,6 +1,7 @@
 -- Lawful      what every mesh owes: its surface is sound, answers fixed values past its end, and has at most 4,096 triangles and 8,192 vertices
 -- Vetted      what an indexed mesh knows of its lists: they keep the limits from above, all coordinates are in range, and their surface is sound
 -- no-lists    lists with nothing in them: no triangle, no vertex
+-- Holds       what a mesh made of given lists holds: exactly these if they are accepted, and nothing otherwise
 -- CornersOf   an array holds the vertices at the three corners of a triangle
 -- Alike       two surfaces say the same at every half-edge and every vertex
 use mathlib.Core.Path.{_≡_}
@@ -14,6 +15,7 @@ use Rattle.base.specs.Ids.{vertex, side}
 use Rattle.mesh.specs.Surface.{Surface, Ended}
 use Rattle.mesh.specs.Sound.{Sound}
 use Rattle.mesh.specs.Lists.{Lists, lists, listed, InRange}
+use Rattle.mesh.specs.Verdict.{Accepted}
 
 pub record Lawful (f : Surface) : Type 0 where
   pub sound : Sound f
@@ -31,6 +33,10 @@ pub record Vetted (l : Lists) : Type 0 where
 
 abbrev pub no-lists : Lists
 no-lists = lists 0 [] [] []
+
+pub record Holds (given held : Lists) : Type 0 where
+  pub accepted : Accepted given → held ≡ given
+  pub refused : (Accepted given → ⊥) → held ≡ no-lists
 
 pub record CornersOf (f : Surface) (t : TriangleId) (vs : List VertexId) : Type 0 where
   pub first : getD vs 0 (vertex 0) ≡ f .corner (side t 0)

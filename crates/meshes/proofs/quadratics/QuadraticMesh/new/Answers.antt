@@ -10,3 +10,6 @@ returns-in-Err c = record { accepted = λ a. absurd (refused-not _ _ (c .in-Err 
 
 pub ghost-result-2 : need.ghost-result-2
 ghost-result-2 c = (∣ accepted-vetted _ (c .in-Ok .ensures tt) ∣₁, tt)
+
+pub returns : need.returns
+returns c = record { accepted = λ _. refl; refused = λ out. absurd (out (c .in-Ok .ensures tt)) }
