@@ -1,9 +1,13 @@
 // The commands of a script, one to a line.
 use crate::rows::Kind;
 use crate::rows::PointRow;
+use crate::rows::SheetRow;
 use crate::rows::TriangleRow;
+use crate::rows::half_edge;
 use crate::rows::point_row;
+use crate::rows::sheet_row;
 use crate::rows::triangle_row;
+use base::ids::HalfEdgeId;
 use std::alloc::AllocError;
 use std::alloc::Global;
 
@@ -17,6 +21,10 @@ pub enum Command {
     AddVertex(PointRow),
     AddTriangle(TriangleRow),
     Check,
+    Sheet(SheetRow),
+    Mirror,
+    Bar(HalfEdgeId),
+    Show,
 }
 
 // The kind of the row of points, and that of the mesh that is described, if one is.
@@ -56,7 +64,20 @@ fn command_of(words: &[&str], kinds: Kinds) -> Result<Command, &'static str> {
             Some(kind) => describe(name, arguments, kind),
             None => Err("mesh integer or mesh quadratic before the first of its lines"),
         },
-        _ => Err("one of the commands kind, point, measure, mesh, vertex, triangle and check"),
+        _ => on_a_mesh(name, arguments),
+    }
+}
+
+// The commands that make the current mesh without lists, or work on it.
+fn on_a_mesh(name: &str, arguments: &[&str]) -> Result<Command, &'static str> {
+    match name {
+        "sheet" => sheet(arguments),
+        "mirror" => alone(arguments, Command::Mirror, "mirror with nothing after it"),
+        "bar" => bar(arguments),
+        "show" => alone(arguments, Command::Show, "show with nothing after it"),
+        _ => Err(
+            "one of the commands kind, point, measure, mesh, vertex, triangle, check, sheet, mirror, bar and show",
+        ),
     }
 }
 
@@ -124,5 +145,23 @@ fn add_triangle(arguments: &[&str]) -> Result<Command, &'static str> {
         None => Err(
             "triangle C0 C1 C2 A0 A1 A2 with whole numbers from 0 to 65535, and - across the boundary",
         ),
+    }
+}
+
+fn sheet(arguments: &[&str]) -> Result<Command, &'static str> {
+    match sheet_row(arguments) {
+        Some(row) => Ok(Command::Sheet(row)),
+        None => Err("sheet A B G with three whole numbers from 0 to 65535"),
+    }
+}
+
+fn bar(arguments: &[&str]) -> Result<Command, &'static str> {
+    let side = match arguments {
+        [word] => half_edge(*word),
+        _ => None,
+    };
+    match side {
+        Some(side) => Ok(Command::Bar(side)),
+        None => Err("bar CODE with a whole number from 0 to 65535"),
     }
 }

@@ -43,6 +43,13 @@ impl Vertices {
         }
     }
 
+    fn copied(&self, heap: Global) -> Result<Vertices, AllocError> {
+        match self {
+            Vertices::Integer(rows) => Ok(Vertices::Integer(rows.as_slice().to_vec(heap)?)),
+            Vertices::Quadratic(rows) => Ok(Vertices::Quadratic(rows.as_slice().to_vec(heap)?)),
+        }
+    }
+
     // A row of the other kind is no line of a script.
     fn add(&mut self, row: PointRow) -> Result<(), AllocError> {
         match (self, row) {
@@ -74,12 +81,32 @@ impl Described {
         self.vertices.kind()
     }
 
-    pub(crate) fn vertices(&self) -> usize {
+    pub(crate) fn vertex_count(&self) -> usize {
         self.vertices.len()
     }
 
-    pub(crate) fn triangles(&self) -> usize {
+    pub(crate) fn triangle_count(&self) -> usize {
         self.corners.len() / 3
+    }
+
+    pub(crate) fn vertices(&self) -> &Vertices {
+        &self.vertices
+    }
+
+    pub(crate) fn corners(&self) -> &[VertexId] {
+        self.corners.as_slice()
+    }
+
+    pub(crate) fn across(&self) -> &[HalfEdgeId] {
+        self.across.as_slice()
+    }
+
+    pub(crate) fn copied(&self, heap: Global) -> Result<Described, AllocError> {
+        Ok(Described {
+            vertices: self.vertices.copied(heap)?,
+            corners: self.corners.as_slice().to_vec(heap)?,
+            across: self.across.as_slice().to_vec(heap)?,
+        })
     }
 
     // Gives the number of the vertex.
@@ -91,7 +118,7 @@ impl Described {
 
     // Gives the number of the triangle.
     pub(crate) fn add_triangle(&mut self, row: TriangleRow) -> Result<usize, AllocError> {
-        let number = self.triangles();
+        let number = self.triangle_count();
         for corner in row.corners {
             self.corners.push(corner)?;
         }
@@ -103,7 +130,7 @@ impl Described {
 
     // Whether the lists are a sound mesh.
     pub(crate) fn check(&self) -> Result<(), Refusal> {
-        let triangles = self.triangles();
+        let triangles = self.triangle_count();
         let corners = self.corners.as_slice();
         let across = self.across.as_slice();
         match &self.vertices {

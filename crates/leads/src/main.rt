@@ -1,9 +1,12 @@
 // Reads a script from standard input, does what each line says, and prints each action.
 mod command;
+mod current;
 mod described;
+mod layers;
 mod points;
 mod rows;
 mod session;
+mod shown;
 mod stop;
 mod text;
 

@@ -24,6 +24,14 @@ pub struct TriangleRow {
     pub across: [HalfEdgeId; 3],
 }
 
+// The numbers of a perforated sheet.
+#[derive(Clone, Copy)]
+pub struct SheetRow {
+    pub columns: u16,
+    pub rows: u16,
+    pub pitch: u16,
+}
+
 // The code across a side of the boundary.
 const BOUNDARY: HalfEdgeId = HalfEdgeId(65_535);
 
@@ -74,10 +82,25 @@ fn vertex(word: &str) -> Option<VertexId> {
     Some(VertexId(word.parse::<u16>().ok()?))
 }
 
+pub(crate) fn half_edge(word: &str) -> Option<HalfEdgeId> {
+    Some(HalfEdgeId(word.parse::<u16>().ok()?))
+}
+
 // A half-edge, or `-` for the boundary.
 fn code_across(word: &str) -> Option<HalfEdgeId> {
     match word {
         "-" => Some(BOUNDARY),
-        _ => Some(HalfEdgeId(word.parse::<u16>().ok()?)),
+        _ => half_edge(word),
     }
+}
+
+pub(crate) fn sheet_row(words: &[&str]) -> Option<SheetRow> {
+    let [columns, rows, pitch] = words else {
+        return None;
+    };
+    Some(SheetRow {
+        columns: columns.parse::<u16>().ok()?,
+        rows: rows.parse::<u16>().ok()?,
+        pitch: pitch.parse::<u16>().ok()?,
+    })
 }

@@ -1,24 +1,34 @@
-// What a script works on: a row of points, and the mesh that it describes.
+// What a script works on: a row of points, the mesh that it describes, and the current mesh.
 use crate::command::Command;
 use crate::command::Kinds;
 use crate::command::parse;
+use crate::current::Base;
+use crate::current::Current;
 use crate::described::Described;
 use crate::points::Points;
 use crate::rows::Kind;
 use crate::rows::PointRow;
+use crate::rows::SheetRow;
 use crate::rows::TriangleRow;
 use crate::stop::Stop;
 use crate::stop::StopFromAlloc;
 use crate::stop::StopFromIo;
 use crate::text::kind_word;
+use base::ids::HalfEdgeId;
 use base::refusals::RefusalDisplay;
+use meshes::Mesh;
+use meshes::sheets::PerforatedSheet;
+use meshes::sheets::SheetMesh;
 use std::alloc::Global;
+
+const NO_MESH: &str = "a sheet before it, or a mesh that check finds sound";
 
 #[derive(Drop)]
 pub struct Session {
     heap: Global,
     points: Points,
     described: Option<Described>,
+    current: Option<Current>,
 }
 
 impl Session {
@@ -27,6 +37,7 @@ impl Session {
             heap,
             points: Points::new(heap, Kind::Integer),
             described: None,
+            current: None,
         }
     }
 
@@ -58,6 +69,10 @@ impl Session {
             Command::AddVertex(row) => self.add_vertex(rt, row),
             Command::AddTriangle(row) => self.add_triangle(rt, row),
             Command::Check => self.check(rt),
+            Command::Sheet(row) => self.sheet(rt, row),
+            Command::Mirror => self.mirror(rt),
+            Command::Bar(side) => self.bar(rt, side),
+            Command::Show => self.show(rt),
         }
     }
 
@@ -91,16 +106,64 @@ impl Session {
         Ok(())
     }
 
-    fn check(&self, rt: &LibcRuntime) -> Result<(), Stop> {
+    fn check(&mut self, rt: &LibcRuntime) -> Result<(), Stop> {
         if let Some(mesh) = &self.described {
-            let vertices = mesh.vertices();
-            let triangles = mesh.triangles();
+            let vertices = mesh.vertex_count();
+            let triangles = mesh.triangle_count();
             println!(rt, "checked: {vertices} vertices, {triangles} triangles")?;
             match mesh.check() {
-                Ok(()) => println!(rt, "sound")?,
+                Ok(()) => {
+                    let base = Base::Lists(mesh.copied(self.heap)?);
+                    self.current = Some(Current::new(self.heap, base));
+                    println!(rt, "sound")?;
+                }
                 Err(refusal) => println!(rt, "{refusal}")?,
             }
         }
         Ok(())
+    }
+
+    fn sheet(&mut self, rt: &LibcRuntime, row: SheetRow) -> Result<(), Stop> {
+        match PerforatedSheet::new(row.columns, row.rows, row.pitch) {
+            Ok(sheet) => {
+                let triangles = sheet.triangles();
+                let vertices = sheet.vertices();
+                self.current = Some(Current::new(self.heap, Base::Sheet(sheet)));
+                println!(rt, "sheet: {triangles} triangles, {vertices} vertices")?;
+            }
+            Err(refusal) => println!(rt, "{refusal}")?,
+        }
+        Ok(())
+    }
+
+    fn mirror(&mut self, rt: &LibcRuntime) -> Result<(), Stop> {
+        let Some(mesh) = &mut self.current else {
+            return Err(Stop::Expected(NO_MESH));
+        };
+        if mesh.mirror() {
+            println!(rt, "mirror")?;
+        } else {
+            println!(rt, "unsupported: a second mirror over a mesh")?;
+        }
+        Ok(())
+    }
+
+    fn bar(&mut self, rt: &LibcRuntime, side: HalfEdgeId) -> Result<(), Stop> {
+        let Some(mesh) = &mut self.current else {
+            return Err(Stop::Expected(NO_MESH));
+        };
+        let code = side.0;
+        match mesh.bar(side)? {
+            Ok(()) => println!(rt, "bar {code}")?,
+            Err(refusal) => println!(rt, "{refusal}")?,
+        }
+        Ok(())
+    }
+
+    fn show(&self, rt: &LibcRuntime) -> Result<(), Stop> {
+        match &self.current {
+            Some(mesh) => mesh.show(rt),
+            None => Err(Stop::Expected(NO_MESH)),
+        }
     }
 }

@@ -1,5 +1,6 @@
-// How numbers, kinds and turns are written.
+// How numbers, kinds, turns and what lies across a side are written.
 use crate::rows::Kind;
+use base::ids::HalfEdgeId;
 use coordinates::Coordinate;
 use gauge::Length;
 use geometry::Turn;
@@ -25,6 +26,22 @@ pub impl fmt::Display for Written as WrittenDisplay {
             write!(f, "{p} - {size}√2")
         } else {
             write!(f, "{p} + {size}√2")
+        }
+    }
+}
+
+// The half-edge across a side, or `-` for the boundary.
+#[derive(Clone, Copy)]
+pub struct Across(pub Option<HalfEdgeId>);
+
+pub impl fmt::Display for Across as AcrossDisplay {
+    fn fmt<W: fmt::Write>(&self, f: &mut fmt::Formatter<W>) -> fmt::Result {
+        match self.0 {
+            Some(side) => {
+                let code = side.0;
+                write!(f, "{code}")
+            }
+            None => write!(f, "-"),
         }
     }
 }

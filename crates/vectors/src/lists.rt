@@ -1,10 +1,11 @@
-// The lists of a mesh, as the lines of a case write them.
+// Meshes as the lines of a case write them: lists, and the numbers of a sheet.
 use crate::answer::Answer;
 use crate::reader::Case;
 use crate::reader::MalformedError;
 use crate::reader::words;
 use base::ids::HalfEdgeId;
 use base::ids::VertexId;
+use base::refusals::Refusal;
 use geometry::IntegerPoint;
 use geometry::IntegerRow;
 use geometry::QuadraticPoint;
@@ -12,6 +13,7 @@ use geometry::QuadraticRow;
 use geometry::points::IntegerKind;
 use geometry::points::QuadraticKind;
 use mesh::validation::validate;
+use meshes::sheets::PerforatedSheet;
 use std::alloc::Global;
 use std::error::AnyError;
 
@@ -142,4 +144,41 @@ pub fn quadratic_row(words: &[&str]) -> Option<QuadraticRow> {
 
 fn whole(word: &str) -> Option<i32> {
     word.parse::<i32>().ok()
+}
+
+// The corners of a triangle, and the codes across its sides.
+#[derive(Clone, Copy)]
+pub struct TriangleRow {
+    pub corners: [VertexId; 3],
+    pub across: [HalfEdgeId; 3],
+}
+
+pub fn triangle_row(words: &[&str]) -> Option<TriangleRow> {
+    let [c0, c1, c2, a0, a1, a2] = words else {
+        return None;
+    };
+    Some(TriangleRow {
+        corners: [
+            VertexId(short(*c0)?),
+            VertexId(short(*c1)?),
+            VertexId(short(*c2)?),
+        ],
+        across: [
+            HalfEdgeId(short(*a0)?),
+            HalfEdgeId(short(*a1)?),
+            HalfEdgeId(short(*a2)?),
+        ],
+    })
+}
+
+// `None` if the words are no three numbers.
+pub fn sheet_of(words: &[&str]) -> Option<Result<PerforatedSheet, Refusal>> {
+    let [columns, rows, pitch] = words else {
+        return None;
+    };
+    Some(PerforatedSheet::new(short(*columns)?, short(*rows)?, short(*pitch)?))
+}
+
+fn short(word: &str) -> Option<u16> {
+    word.parse::<u16>().ok()
 }

@@ -1,10 +1,12 @@
 // Runs the cases of a vector file from standard input, and says which of them differ.
 mod answer;
+mod layers;
 mod lists;
 mod reader;
 mod report;
 mod small;
 mod vet;
+mod walks;
 
 use reader::Case;
 use reader::MalformedError;
@@ -27,7 +29,8 @@ fn run_case(heap: Global, case: &Case) -> Result<Outcome, AnyError> {
     match case.sort {
         Sort::Small => small::run(heap, case),
         Sort::Vet => vet::run(heap, case),
-        Sort::Walks | Sort::Calls | Sort::Gen => Ok(Outcome::Skipped),
+        Sort::Walks => walks::run(heap, case),
+        Sort::Calls | Sort::Gen => Ok(Outcome::Skipped),
     }
 }
 

@@ -4,6 +4,7 @@ use crate::lists::Kind;
 use crate::lists::Lists;
 use crate::lists::quadratic_row;
 use crate::lists::read_vertices;
+use crate::lists::sheet_of;
 use crate::reader::Case;
 use crate::reader::MalformedError;
 use crate::reader::first_word;
@@ -27,7 +28,8 @@ pub fn run(heap: Global, case: &Case) -> Result<Outcome, AnyError> {
     match name {
         "table" => table(heap, case, rest),
         "makepoint" => make_point(heap, case, rest),
-        "sheet" | "packed" => Ok(Outcome::Skipped),
+        "sheet" => sheet(heap, case, rest),
+        "packed" => Ok(Outcome::Skipped),
         _ => Err(
             case.malformed(0, "table, makepoint, sheet or packed")
                 .into(),
@@ -142,5 +144,16 @@ fn make_point(heap: Global, case: &Case, text: &str) -> Result<Outcome, AnyError
     match point_made(words.as_slice()) {
         Some(answer) => answer.compare(heap, case, 1),
         None => Err(case.malformed(0, "a kind and four whole numbers").into()),
+    }
+}
+
+fn sheet(heap: Global, case: &Case, text: &str) -> Result<Outcome, AnyError> {
+    let words = words(heap, text)?;
+    let Some(made) = sheet_of(words.as_slice()) else {
+        return Err(case.malformed(0, "three sizes").into());
+    };
+    match made {
+        Ok(_) => Answer::Sound.compare(heap, case, 1),
+        Err(refusal) => Answer::refused(refusal).compare(heap, case, 1),
     }
 }
