@@ -75,7 +75,7 @@ pub leaves-by : (t : Side) (c d : Crossing) → Goes-on (other t) c d → before
 leaves-by Left c d e = ap next e ∙ next-next (c .entered)
 leaves-by Right c d e = sym (previous-next (d .left)) ∙ ap previous e ∙ sym (next-next (c .entered))
 
-three-ways : (g h : HalfEdgeId) → triangle-of g ≡ triangle-of h → (g ≡ h) ⊎ ((next g ≡ h) ⊎ (g ≡ next h))
+pub three-ways : (g h : HalfEdgeId) → triangle-of g ≡ triangle-of h → (g ≡ h) ⊎ ((next g ≡ h) ⊎ (g ≡ next h))
 three-ways g h e =
     let q = ap (λ x. x .0) e in
     elim (one-of-three ((g .0 % 3 + (3 - h .0 % 3)) % 3) (omega arith)) [

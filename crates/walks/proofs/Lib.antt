@@ -8,3 +8,5 @@ pub mod WalkParts
 pub mod ShorterPaths
 pub mod ShortestOfAll
 pub mod WaysBack
+pub mod OneFanOfMesh
+pub mod EqualWalks

@@ -111,7 +111,7 @@ module _ (f : Surface) (sound : Sound f) where
       ]
 
   -- gs follow h to the right, hs to the left
-  both-ways : (h : HalfEdgeId) (gs hs : List HalfEdgeId) (v : Point) → Has f h → spot f h ≡ v → Round-on f Right h gs → Round-on f Left h hs → Fan quadratics Left (reverseAux (fars f Right v gs) (row f Left v h hs))
+  pub both-ways : (h : HalfEdgeId) (gs hs : List HalfEdgeId) (v : Point) → Has f h → spot f h ≡ v → Round-on f Right h gs → Round-on f Left h hs → Fan quadratics Left (reverseAux (fars f Right v gs) (row f Left v h hs))
   both-ways h [] hs v w is r l = left-fan h hs v w is l
   both-ways h (g ∷ gs) hs v w is r l =
       subst (λ q. Fan quadratics Left (reverseAux (fars f Right v gs) q)) (row-back g h hs v (r .1) w (r .0))

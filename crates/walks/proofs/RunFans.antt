@@ -56,7 +56,7 @@ module _ (f : Surface) (sound : Sound f) where
 
   module _ (u : TriangleId) (e : Point) (finish : Inside f u e) where
     -- the rays of the run, after others that make a fan with every row of corners from here
-    run-fan : (t : Side) (c : Crossing) (w : List Crossing) (v : Point) (front rs : List Point) → Crossed f c → Walk f (triangle-of (c .entered)) w u → Reduced recrossed (c ∷ w) → spot f (after t c) ≡ v
+    pub run-fan : (t : Side) (c : Crossing) (w : List Crossing) (v : Point) (front rs : List Point) → Crossed f c → Walk f (triangle-of (c .entered)) w u → Reduced recrossed (c ∷ w) → spot f (after t c) ≡ v
         → ((gs : List HalfEdgeId) → Round-on f t (after t c) gs → Fan quadratics t (front ++ row f t v (after t c) gs))
         → Run quadratics t e (portal-of f c) (portals f w) rs → Fan quadratics t (front ++ ((v ⟶ spot f (near t (after t c))) ∷ rs))
     run-fan t c [] v front rs k walk r is fan run =

@@ -26,7 +26,7 @@ use Rattle.walks.proofs.Crossings.{Crossed, in-front, goes-on-round, link}
 use Rattle.walks.proofs.RunFans.{reduced-tail, crossed-next, fan-bound}
 
 module _ (f : Surface) (sound : Sound f) where
-  behind : (c : Crossing) (s : Point) → Inside f (triangle-of (c .left)) s → Behind quadratics (portal-of f c) s
+  pub behind : (c : Crossing) (s : Point) → Inside f (triangle-of (c .left)) s → Behind quadratics (portal-of f c) s
   behind c s i = pos-eq quadratic-ring (cyc quadratic-ring Left (spot f (c .left)) (spot f (next (c .left))) s) (inside-left f (triangle-of (c .left)) s i (c .left) (λ i. triangle-of (c .left)))
 
   ahead : (u : TriangleId) (e : Point) → Inside f u e → (c : Crossing) (w : List Crossing) → Crossed f c → Walk f (triangle-of (c .entered)) w u → Reduced recrossed (c ∷ w) → Ahead quadratics e (portal-of f c) (portals f w)

@@ -15,6 +15,9 @@
 -- ExactlyOne   such a walk has exactly one taut string: the bends that the funnel finds
 -- ShortestOfAll   no path through the portals of crossings that are homotopic to such a walk measures less, under any gauge, than D times its taut string
 -- BackLaw      the way back of such a walk is one too, and its taut string is the string read backwards
+-- EqualWalks   two such walks between the same terminals that have the same taut string are one walk
+-- reduced-string   the bends that the funnel finds for the reduction of crossings
+-- SameStringSameClass   walks between the same terminals, spurs allowed: the funnel finds the same bends for their reductions exactly when they are homotopic
 use mathlib.Core.Path.{_≡_}
 use mathlib.Core.List.{List, [], _∷_, _++_}
 use Prim.Native.Nat.{ℕ, _<_}
@@ -68,3 +71,14 @@ ShortestOfAll = (f : Surface) → Sound f → (t u : TriangleId) (s e : Point) (
 abbrev pub BackLaw : Type 0
 BackLaw = (f : Surface) → Sound f → (t u : TriangleId) (s e : Point) (w : List Crossing) → Joins f t s w u e
     → Joins f u e (way-back w) t s × ((bs : List (Bend Number)) → TautOf f s w e bs → TautOf f e (way-back w) s (backward-bends bs))
+
+abbrev pub EqualWalks : Type 0
+EqualWalks = (f : Surface) → Sound f → (t u : TriangleId) (s e : Point) (w w′ : List Crossing) → Joins f t s w u e → Joins f t s w′ u e
+    → (bs : List (Bend Number)) → TautOf f s w e bs → TautOf f s w′ e bs → w ≡ w′
+
+abbrev pub reduced-string : Surface → Point → List Crossing → Point → List (Bend Number)
+reduced-string f s w e = funnel quadratics sign s (portals f (reduction recrossed same-crossing w)) e
+
+abbrev pub SameStringSameClass : Type 0
+SameStringSameClass = (f : Surface) → Sound f → (t u : TriangleId) (s e : Point) (v v′ : List Crossing) → t .0 < f .F → Inside f t s → Inside f u e → Walk f t v u → Walk f t v′ u
+    → (reduced-string f s v e ≡ reduced-string f s v′ e → Homotopic recrossed v v′) × (Homotopic recrossed v v′ → reduced-string f s v e ≡ reduced-string f s v′ e)

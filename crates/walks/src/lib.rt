@@ -1,5 +1,5 @@
 // Walks from triangle to triangle on a surface: their portals, and what holds of their taut strings. Each call is a statement with its proof; what it returns says nothing.
-ghost use Rattle.walks.specs.Laws.{WalkLaws, SleeveLaw, ExactlyOne, ShortestOfAll, BackLaw};
+ghost use Rattle.walks.specs.Laws.{WalkLaws, SleeveLaw, ExactlyOne, ShortestOfAll, BackLaw, EqualWalks, SameStringSameClass};
 
 // Walks are joined, parted, reduced and walked back.
 pub fn walks_stand() -> u8
@@ -32,6 +32,20 @@ pub fn shortest_stand() -> u8
 // Walked back, it has the same string read backwards.
 pub fn ways_back_stand() -> u8
     ensures { λ _. ⌜ BackLaw ⌝ }
+{
+    0
+}
+
+// Two such walks with the same string are one.
+pub fn equal_walks_stand() -> u8
+    ensures { λ _. ⌜ EqualWalks ⌝ }
+{
+    0
+}
+
+// So the string tells the homotopy class.
+pub fn same_class_stands() -> u8
+    ensures { λ _. ⌜ SameStringSameClass ⌝ }
 {
     0
 }
