@@ -133,7 +133,7 @@ fn walk_from<P: PointKind>(
 }
 
 // Marks the corners of all open fans, and answers the smallest corner that comes round.
-pub fn walk_fans<P: PointKind>(
+pub(crate) fn walk_fans<P: PointKind>(
     triangles: usize,
     rows: &[P::Row],
     corners: &[VertexId],
@@ -167,7 +167,7 @@ pub fn walk_fans<P: PointKind>(
 }
 
 // The first corner that is not marked.
-pub fn first_closed(opened: &[bool], sides: usize) -> Option<usize>
+pub(crate) fn first_closed(opened: &[bool], sides: usize) -> Option<usize>
     requires { ⌜ sides ≤ length (now opened) ⌝ }
     ensures { λ r. ⌜ FirstBad (λ k. Marked (now (opened .entry)) (halfEdge k)) sides r ⌝ }
 {

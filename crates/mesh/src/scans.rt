@@ -23,7 +23,7 @@ use geometry::TurnPartialEq;
 use geometry::kinds::PointKind;
 
 // The first vertex that has a coordinate out of range.
-pub fn first_out_of_range<P: PointKind>(rows: &[P::Row]) -> Option<usize>
+pub(crate) fn first_out_of_range<P: PointKind>(rows: &[P::Row]) -> Option<usize>
     ensures { λ r. ⌜ FirstBad (λ k. pointRefusal (getD (map written (now (rows .entry))) k origin) ≡ None) (length (now (rows .entry))) r ⌝ }
 {
     for i in 0..rows.len() {
@@ -35,7 +35,7 @@ pub fn first_out_of_range<P: PointKind>(rows: &[P::Row]) -> Option<usize>
 }
 
 // The first corner that names no vertex.
-pub fn first_far_corner(corners: &[VertexId], vertices: usize) -> Option<usize>
+pub(crate) fn first_far_corner(corners: &[VertexId], vertices: usize) -> Option<usize>
     ensures { λ r. ⌜ FirstBad (λ k. getD (now (corners .entry)) k (vertex 0) .0 < vertices) (length (now (corners .entry))) r ⌝ }
 {
     for i in 0..corners.len() {
@@ -47,7 +47,7 @@ pub fn first_far_corner(corners: &[VertexId], vertices: usize) -> Option<usize>
 }
 
 // The point at a corner.
-pub fn spot_of<P: PointKind>(
+pub(crate) fn spot_of<P: PointKind>(
     triangles: usize,
     rows: &[P::Row],
     corners: &[VertexId],
@@ -81,7 +81,7 @@ fn turn_of<P: PointKind>(
 }
 
 // The first triangle that does not turn left.
-pub fn first_wrong_turn<P: PointKind>(
+pub(crate) fn first_wrong_turn<P: PointKind>(
     triangles: usize,
     rows: &[P::Row],
     corners: &[VertexId],
@@ -98,14 +98,14 @@ pub fn first_wrong_turn<P: PointKind>(
 }
 
 // What is written across a side.
-pub fn twin_of(across: &[HalfEdgeId], h: HalfEdgeId) -> Option<HalfEdgeId>
+pub(crate) fn twin_of(across: &[HalfEdgeId], h: HalfEdgeId) -> Option<HalfEdgeId>
     requires { ⌜ h .0 < length (now across) ⌝ }
     ensures { λ r. ⌜ r ≡ leads (getD (now (across .entry)) (h .0) boundary) ⌝ }
 {
     across[h.place()].leads()
 }
 
-pub fn corner_of(corners: &[VertexId], h: HalfEdgeId) -> VertexId
+pub(crate) fn corner_of(corners: &[VertexId], h: HalfEdgeId) -> VertexId
     requires { ⌜ h .0 < length (now corners) ⌝ }
     ensures { λ r. ⌜ r ≡ getD (now (corners .entry)) (h .0) (vertex 0) ⌝ }
 {
@@ -157,7 +157,7 @@ fn is_paired(triangles: usize, corners: &[VertexId], across: &[HalfEdgeId], h: H
 }
 
 // The first side that is neither boundary nor paired with its twin.
-pub fn first_unpaired(
+pub(crate) fn first_unpaired(
     triangles: usize,
     corners: &[VertexId],
     across: &[HalfEdgeId],
