@@ -1,1 +1,2 @@
 pub mod StringLengths
+pub mod FromTheRight

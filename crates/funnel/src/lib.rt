@@ -1,4 +1,5 @@
 // The funnel in code: it runs over any mesh and finds the bends of the taut string.
+pub mod ends;
 pub mod lengths;
 pub mod portals;
 
