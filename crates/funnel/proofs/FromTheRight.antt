@@ -1,7 +1,7 @@
 -- A double-ended list read from the right: what a look, a pop and a push at its back are, as it is seen from there.
 use mathlib.Core.Path.{_≡_, refl, sym, ap, _∙_, subst}
 use mathlib.Core.List.{List, [], _∷_, _++_, reverse}
-use Prim.Native.Nat.{ℕ, _-_, _<_, _≤_}
+use Prim.Native.Nat.{ℕ, zero, suc, _-_, _<_, _≤_}
 use native.Mathlib.Omega.{arith}
 use lib.ListN.{length}
 use Rattle.std.specs.Finite.{nth}
@@ -24,6 +24,21 @@ nth-reverse (x ∷ xs) k lt =
     ∙ ap Some (sym (getD-reverse (x ∷ xs) k x lt))
     ∙ sym (nth-getD (reverse (x ∷ xs)) k x (omega (arith, length-reverse (x ∷ xs))))
 
+abbrev held : {X : Type 0} → Option X → ℕ
+held None = 0
+held (Some x) = 1
+
+none-there : {X : Type 0} (l : List X) (k : ℕ) → None ≡ nth l k → length l ≤ k
+none-there [] k e = omega arith
+none-there (x ∷ xs) zero e =
+    let no : 0 ≡ 1 = ap held e in
+    absurd (omega (arith, no))
+none-there (x ∷ xs) (suc k) e = omega (arith, none-there xs k e)
+
+-- a list without a second element
+pub short : {X Y : Type 0} (Q : Y → Type 0) (l : List X) (k : ℕ) (r : Option Y) (x : Option X) → r ≡ None → x ≡ None → x ≡ nth l k → k ≤ 1 → BySome r (length l ≤ 1) Q
+short Q l k r x e none is le = subst (λ o. BySome o (length l ≤ 1) Q) (sym e) (omega (arith, none-there l k (sym none ∙ is)))
+
 module _ {X : Type 0} (side : Side) (right : side ≡ Right) where
   pub looked : (l : List X) (k n : ℕ) (r : Option X) → n ≡ length l → k < n → r ≡ nth l (n - 1 - k) → r ≡ nth (seen side l) k
   looked l k n r e lt is = subst (λ s. r ≡ nth (seen s l) k) (sym right) (is ∙ ap (λ m. nth l (m - 1 - k)) e ∙ nth-reverse l k (omega (arith, e)))
@@ -40,3 +55,10 @@ module _ {X : Type 0} (side : Side) (right : side ≡ Right) where
       → Cases r (λ _. seen side after ≡ x ∷ seen side before) (λ _. P)
   pushed P before after x (Ok u) is = subst (λ s. seen s after ≡ x ∷ seen s before) (sym right) (ap reverse is ∙ reverse-append before (x ∷ []))
   pushed P before after x (Err e) p = p
+
+-- a pop takes the first element of a list that is known
+pub taken : {X : Type 0} (P : Type 0) (row row′ : List X) (c : X) (rest : List X) (r : Option X) → BySome r ((row ≡ []) × P) (λ x. row ≡ x ∷ row′) → row ≡ c ∷ rest → row ≡ c ∷ row′
+taken P row row′ c rest None (none, p) e = absurd (omega (arith, ap length (sym none ∙ e)))
+taken P row row′ c rest (Some x) is e =
+    let same : x ≡ c = cc in
+    is ∙ ap (λ v. v ∷ row′) same

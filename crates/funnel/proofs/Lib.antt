@@ -1,2 +1,3 @@
 pub mod StringLengths
 pub mod FromTheRight
+pub mod SettledChains

@@ -1,17 +1,28 @@
 // A double-ended list read from the end that a side names: the left end is the front.
 ghost use mathlib.Core.Path.{_≡_};
 ghost use mathlib.Core.List.{[], _∷_};
-ghost use lib.ListN.{length};
+ghost use lib.ListN.{length, drop};
 ghost use Prim.Native.Nat.{_≤_};
 ghost use Rattle.std.specs.Finite.{nth};
 ghost use Rattle.std.specs.Results.{Cases};
 ghost use Rattle.std.specs.Options.{Cases as BySome};
 ghost use Rattle.base.specs.Refusals.{refusal};
 ghost use Rattle.deque.specs.Contents.{contents, full-refusal as fullRefusal};
+ghost use Rattle.taut.specs.Sleeve.{other};
 ghost use Rattle.funnel.specs.Ends.{seen};
 use base::refusals::Refusal;
 use deque::Deque;
 use taut::Side;
+
+// The other side.
+pub fn other(side: Side) -> Side
+    ensures { λ r. ⌜ r ≡ other side ⌝ }
+{
+    match side {
+        Side::Left => Side::Right,
+        Side::Right => Side::Left,
+    }
+}
 
 // Element `k`, counted from the side.
 pub fn peek<T: Copy>(row: &Deque<T>, slots: &[T], side: Side, k: usize) -> Option<T>
@@ -28,6 +39,17 @@ pub fn peek<T: Copy>(row: &Deque<T>, slots: &[T], side: Side, k: usize) -> Optio
             }
         }
     }
+}
+
+// The two elements next to the side.
+pub fn first_two<T: Copy>(row: &Deque<T>, slots: &[T], side: Side) -> Option<(T, T)>
+    ensures { λ r. ⌜ BySome r
+        (length (seen side (contents (now (row .entry)) (now (slots .entry)))) ≤ 1)
+        (λ p. seen side (contents (now (row .entry)) (now (slots .entry))) ≡ p .0 ∷ p .1 ∷ drop 2 (seen side (contents (now (row .entry)) (now (slots .entry))))) ⌝ }
+{
+    let first = peek(row, slots, side, 0)?;
+    let second = peek(row, slots, side, 1)?;
+    Some((first, second))
 }
 
 // Takes the element at the side away.

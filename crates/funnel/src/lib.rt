@@ -2,14 +2,18 @@
 pub mod ends;
 pub mod lengths;
 pub mod portals;
+mod settling;
 
 use base::ids::VertexId;
+use deque::Deque;
+use deque::DequeClone;
 use taut::Side;
 
-// A vertex with its point.
+// An end of a portal: its vertex, the side on which it lies, and its point.
 #[derive(Clone, Copy)]
 pub struct Corner<P: Copy> {
     pub vertex: VertexId,
+    pub side: Side,
     pub point: P,
 }
 
@@ -25,4 +29,14 @@ pub struct Portal<P: Copy> {
 pub struct Bend {
     pub vertex: VertexId,
     pub side: Side,
+}
+
+// A funnel as it is seen from a side. Its row of corners is the near chain, the apex and the far chain, the near end at that side;
+// `near` and `far` say how many corners the chains have. The bends that are final are a list too, the apex first if it is one.
+#[derive(Clone, Copy)]
+pub struct Chains<P: Copy> {
+    row: Deque<Corner<P>>,
+    bends: Deque<Corner<P>>,
+    near: usize,
+    far: usize,
 }

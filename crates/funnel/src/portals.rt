@@ -6,15 +6,17 @@ use crate::Corner;
 use crate::Portal;
 use base::ids::VertexId;
 use meshes::Mesh;
+use taut::Side;
 use words::sorts::Crossing;
 
-// A vertex with the point that the mesh has for it.
-fn corner_at<M: Mesh>(mesh: &M, vertex: VertexId) -> Corner<M::Point>
+// A vertex on a side, with the point that the mesh has for it.
+fn corner_at<M: Mesh>(mesh: &M, side: Side, vertex: VertexId) -> Corner<M::Point>
     ensures vertex { λ r. ⌜ r .vertex ≡ vertex ⌝ }
     ensures point { λ r. ⌜ Point·PointKind .at (r .point) ≡ surface (now (mesh .entry)) .point vertex ⌝ }
 {
     Corner {
         vertex,
+        side,
         point: mesh.point(vertex),
     }
 }
@@ -30,7 +32,7 @@ pub fn portal_of<M: Mesh>(mesh: &M, crossing: Crossing) -> Portal<M::Point>
         _ => (third, first),
     };
     Portal {
-        left: corner_at(mesh, left),
-        right: corner_at(mesh, right),
+        left: corner_at(mesh, Side::Left, left),
+        right: corner_at(mesh, Side::Right, right),
     }
 }
