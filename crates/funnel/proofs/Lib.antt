@@ -1,3 +1,4 @@
 pub mod StringLengths
 pub mod FromTheRight
 pub mod SettledChains
+pub mod GainedEnds

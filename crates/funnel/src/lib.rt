@@ -1,5 +1,6 @@
 // The funnel in code: it runs over any mesh and finds the bends of the taut string.
 pub mod ends;
+mod gaining;
 pub mod lengths;
 pub mod portals;
 mod settling;
