@@ -1,7 +1,8 @@
 -- A new end on what chains hold: a corner put at the near end, and the chains seen from the other side.
 use mathlib.Core.Path.{_≡_, refl, sym, ap, _∙_, subst}
 use mathlib.Core.List.{List, [], _∷_, _++_, map, reverse}
-use mathlib.Core.Bool.{cond}
+use mathlib.Core.Bool.{true, false}
+use lib.Dec.{eqb}
 use Prim.Native.Nat.{ℕ, _+_, _<_, _≤_}
 use native.Mathlib.Omega.{arith}
 use lib.ListN.{length}
@@ -11,7 +12,7 @@ use Rattle.std.specs.declared.option.Option.the-variants.{Some, None}
 use Rattle.std.specs.declared.result.Result.{Result}
 use Rattle.std.specs.declared.result.Result.the-variants.{Ok, Err}
 use Rattle.std.proofs.shelf.Lists.{length-append, length-reverse, reverse-append, reverse-reverse, map-append, append-assoc}
-use Rattle.std.proofs.shelf.Tests.{cond-true, lt-ltb}
+use Rattle.std.proofs.shelf.Tests.{cond-true, cond-false, lt-ltb}
 use Rattle.base.specs.declared.refusals.Refusal.{Refusal}
 use Rattle.base.specs.declared.refusals.Refusal.the-variants.{ListFull}
 use Rattle.base.specs.Refusals.{refusal}
@@ -25,8 +26,9 @@ use Rattle.taut.specs.Funnel.{Funnel, push, flip}
 use Rattle.funnel.specs.declared.Corner.{Corner}
 use Rattle.funnel.specs.Corners.{vertex-meant}
 use Rattle.funnel.specs.Ends.{seen}
+use Rattle.funnel.specs.declared.Portal.{Portal}
 use Rattle.funnel.specs.declared.Chains.{Chains}
-use Rattle.funnel.specs.Chains.{meant, Holds, Flips, Nears, Gains}
+use Rattle.funnel.specs.Chains.{meant, Holds, Stands, Flips, Nears, Gains, Widens}
 
 abbrev held : {X : Type 0} → Option X → ℕ
 held None = 0
@@ -88,3 +90,13 @@ module _ {P : Type 0} (at : P → Point) where
   gained-right Left is c d d₁ d₂ d₃ slots places slots′ places′ turn nears back =
       let no : 0 ≡ 1 = ap number is in
       absurd (omega (arith, no))
+
+  pub widened-right : (p q : Portal P) (d d′ : Chains P) (slots places slots′ places′ : List (Corner P)) → eqb (p .left .vertex .0) (q .left .vertex .0) ≡ true
+      → Gains at Right (p .right) d slots places d′ slots′ places′ → Widens at p q d slots places d′ slots′ places′
+  widened-right p q d d′ slots places slots′ places′ same gains = λ e n f room fits h.
+      subst (λ g. Stands at e Left d′ slots′ places′ (n + 1) g) (sym (cond-true _ _ _ same)) (gains e n f room fits h)
+
+  pub widened-left : (p q : Portal P) (d d′ : Chains P) (slots places slots′ places′ : List (Corner P)) → eqb (p .left .vertex .0) (q .left .vertex .0) ≡ false
+      → Gains at Left (p .left) d slots places d′ slots′ places′ → Widens at p q d slots places d′ slots′ places′
+  widened-left p q d d′ slots places slots′ places′ same gains = λ e n f room fits h.
+      subst (λ g. Stands at e Left d′ slots′ places′ (n + 1) g) (sym (cond-false _ _ _ same)) (gains e n f room fits h)

@@ -15,6 +15,7 @@
 -- Flips       the chains stand for the same funnel as it is seen from the other side
 -- Nears       where there are slots and places for one more vertex, a new near end settles the funnel and is put there
 -- Gains       the same for a new end on either side; the funnel is kept as it is seen from the left
+-- Widens      the same from a portal to the portal before it
 use mathlib.Core.Bool.{Bool, false}
 use mathlib.Core.Path.{_≡_}
 use mathlib.Core.List.{List, _∷_, _++_, map}
@@ -27,10 +28,11 @@ use Rattle.taut.specs.declared.Side.{Side}
 use Rattle.taut.specs.declared.Side.the-variants.{Left}
 use Rattle.taut.specs.Sleeve.{other}
 use Rattle.taut.specs.TautString.{Bend, aim}
-use Rattle.taut.specs.Funnel.{Funnel, settle, push, flip, gain}
+use Rattle.taut.specs.Funnel.{Funnel, settle, push, flip, gain, widen}
 use Rattle.funnel.specs.declared.Corner.{Corner}
 use Rattle.funnel.specs.declared.Chains.{Chains}
-use Rattle.funnel.specs.Corners.{vertex-meant}
+use Rattle.funnel.specs.declared.Portal.{Portal}
+use Rattle.funnel.specs.Corners.{vertex-meant, portal-meant}
 use Rattle.funnel.specs.Ends.{seen}
 
 module _ {P : Type 0} (at : P → Point) where
@@ -83,3 +85,7 @@ module _ {P : Type 0} (at : P → Point) where
   abbrev pub Gains : Side → Corner P → Chains P → List (Corner P) → List (Corner P) → Chains P → List (Corner P) → List (Corner P) → Type 0
   Gains t c d slots places d′ slots′ places′ = (e : Point) (n : ℕ) (f : Funnel Number) → n + 1 < length slots → n ≤ length places → Stands e Left d slots places n f
       → Stands e Left d′ slots′ places′ (n + 1) (gain quadratics sign e t (vertex-meant at c) f)
+
+  abbrev pub Widens : Portal P → Portal P → Chains P → List (Corner P) → List (Corner P) → Chains P → List (Corner P) → List (Corner P) → Type 0
+  Widens p q d slots places d′ slots′ places′ = (e : Point) (n : ℕ) (f : Funnel Number) → n + 1 < length slots → n ≤ length places → Stands e Left d slots places n f
+      → Stands e Left d′ slots′ places′ (n + 1) (widen quadratics sign e (portal-meant at p) (portal-meant at q) f)

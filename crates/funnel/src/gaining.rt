@@ -2,9 +2,10 @@
 ghost use mathlib.Core.List.{List};
 ghost use mathlib.Core.Path.{_≡_};
 ghost use lib.ListN.{length};
-ghost use Rattle.funnel.specs.Chains.{Pushes, Flips, Nears, Gains};
+ghost use Rattle.funnel.specs.Chains.{Pushes, Flips, Nears, Gains, Widens};
 use crate::Chains;
 use crate::Corner;
+use crate::Portal;
 use crate::ends::push;
 use geometry::kinds::PointKind;
 use taut::Side;
@@ -53,6 +54,19 @@ impl<P: PointKind> Chains<P> {
                 self.gain_near(slots, places, side, corner);
                 self.flip();
             }
+        }
+    }
+
+    // Goes from a portal to the portal before it: the end that they do not share is new.
+    pub fn widen(&mut self, slots: &mut [Corner<P>], places: &mut [Corner<P>], before: Portal<P>, present: Portal<P>)
+        ensures widens { λ _. ⌜ Widens at before present (now (self .entry)) (now (slots .entry)) (now (places .entry)) (now (self .exit)) (now (slots .exit)) (now (places .exit)) ⌝ }
+        ensures slots { λ _. ⌜ length (now (slots .exit)) ≡ length (now (slots .entry)) ⌝ }
+        ensures places { λ _. ⌜ length (now (places .exit)) ≡ length (now (places .entry)) ⌝ }
+    {
+        if before.left.vertex.0 == present.left.vertex.0 {
+            self.gain(slots, places, Side::Right, before.right);
+        } else {
+            self.gain(slots, places, Side::Left, before.left);
         }
     }
 }
