@@ -2,3 +2,4 @@ pub mod StringLengths
 pub mod FromTheRight
 pub mod SettledChains
 pub mod GainedEnds
+pub mod OpenedChains

@@ -16,9 +16,12 @@
 -- Nears       where there are slots and places for one more vertex, a new near end settles the funnel and is put there
 -- Gains       the same for a new end on either side; the funnel is kept as it is seen from the left
 -- Widens      the same from a portal to the portal before it
+-- no-chains   the funnel of an end point alone
+-- Begins      where there is a slot for it, the chains stand for the end point alone
+-- Opens       where there are slots for it, the chains stand for the funnel at the last portal
 use mathlib.Core.Bool.{Bool, false}
 use mathlib.Core.Path.{_≡_}
-use mathlib.Core.List.{List, _∷_, _++_, map}
+use mathlib.Core.List.{List, [], _∷_, _++_, map}
 use Prim.Native.Nat.{ℕ, _+_, _<_, _≤_}
 use lib.ListN.{length}
 use Rattle.algebra.specs.Number.{Number, quadratics, sign}
@@ -28,7 +31,7 @@ use Rattle.taut.specs.declared.Side.{Side}
 use Rattle.taut.specs.declared.Side.the-variants.{Left}
 use Rattle.taut.specs.Sleeve.{other}
 use Rattle.taut.specs.TautString.{Bend, aim}
-use Rattle.taut.specs.Funnel.{Funnel, settle, push, flip, gain, widen}
+use Rattle.taut.specs.Funnel.{Funnel, settle, push, flip, gain, widen, funnel-at}
 use Rattle.funnel.specs.declared.Corner.{Corner}
 use Rattle.funnel.specs.declared.Chains.{Chains}
 use Rattle.funnel.specs.declared.Portal.{Portal}
@@ -89,3 +92,12 @@ module _ {P : Type 0} (at : P → Point) where
   abbrev pub Widens : Portal P → Portal P → Chains P → List (Corner P) → List (Corner P) → Chains P → List (Corner P) → List (Corner P) → Type 0
   Widens p q d slots places d′ slots′ places′ = (e : Point) (n : ℕ) (f : Funnel Number) → n + 1 < length slots → n ≤ length places → Stands e Left d slots places n f
       → Stands e Left d′ slots′ places′ (n + 1) (widen quadratics sign e (portal-meant at p) (portal-meant at q) f)
+
+  abbrev pub no-chains : Funnel Number
+  no-chains = record { near = []; final = []; far = [] }
+
+  abbrev pub Begins : P → Chains P → List (Corner P) → Type 0
+  Begins x d slots = (places : List (Corner P)) → 0 < length slots → Stands (at x) Left d slots places 0 no-chains
+
+  abbrev pub Opens : P → Portal P → Chains P → List (Corner P) → Type 0
+  Opens x p d slots = (places : List (Corner P)) → 2 < length slots → Stands (at x) Left d slots places 2 (funnel-at quadratics sign (at x) (portal-meant at p) [])

@@ -12,7 +12,7 @@ use taut::Side;
 
 impl<P: PointKind> Chains<P> {
     // Puts a corner at the near end.
-    fn push_near(&mut self, slots: &mut [Corner<P>], side: Side, corner: Corner<P>)
+    pub(crate) fn push_near(&mut self, slots: &mut [Corner<P>], side: Side, corner: Corner<P>)
         ensures pushes { λ _. ⌜ ((places : List (Corner P)) → Pushes at side corner (now (self .entry)) (now (slots .entry)) places (now (self .exit)) (now (slots .exit))) ⌝ }
         ensures size { λ _. ⌜ length (now (slots .exit)) ≡ length (now (slots .entry)) ⌝ }
     {
@@ -23,7 +23,7 @@ impl<P: PointKind> Chains<P> {
     }
 
     // Turns to the other side.
-    fn flip(&mut self)
+    pub(crate) fn flip(&mut self)
         ensures { λ _. ⌜ ((slots places : List (Corner P)) → Flips at (now (self .entry)) slots places (now (self .exit))) ⌝ }
     {
         let near = self.near;

@@ -1,4 +1,5 @@
 // The funnel in code: it runs over any mesh and finds the bends of the taut string.
+mod beginning;
 pub mod ends;
 mod gaining;
 pub mod lengths;
