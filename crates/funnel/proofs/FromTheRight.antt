@@ -1,5 +1,5 @@
 -- A double-ended list read from the right: what a look, a pop and a push at its back are, as it is seen from there.
-use mathlib.Core.Path.{_≡_, refl, sym, ap, _∙_, subst}
+use mathlib.Core.Path.{_≡_, sym, ap, _∙_, subst}
 use mathlib.Core.List.{List, [], _∷_, _++_, reverse}
 use Prim.Native.Nat.{ℕ, zero, suc, _-_, _<_, _≤_}
 use native.Mathlib.Omega.{arith}
@@ -24,7 +24,8 @@ nth-reverse (x ∷ xs) k lt =
     ∙ ap Some (sym (getD-reverse (x ∷ xs) k x lt))
     ∙ sym (nth-getD (reverse (x ∷ xs)) k x (omega (arith, length-reverse (x ∷ xs))))
 
-abbrev held : {X : Type 0} → Option X → ℕ
+-- how many elements an option holds
+abbrev pub held : {X : Type 0} → Option X → ℕ
 held None = 0
 held (Some x) = 1
 

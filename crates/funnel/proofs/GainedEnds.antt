@@ -3,19 +3,13 @@ use mathlib.Core.Path.{_≡_, refl, sym, ap, _∙_, subst}
 use mathlib.Core.List.{List, [], _∷_, _++_, map, reverse}
 use mathlib.Core.Bool.{true, false}
 use lib.Dec.{eqb}
-use Prim.Native.Nat.{ℕ, _+_, _<_, _≤_}
+use Prim.Native.Nat.{ℕ, _+_, _<_}
 use native.Mathlib.Omega.{arith}
 use lib.ListN.{length}
-use Rattle.std.specs.Results.{Cases}
-use Rattle.std.specs.declared.option.Option.{Option}
-use Rattle.std.specs.declared.option.Option.the-variants.{Some, None}
-use Rattle.std.specs.declared.result.Result.{Result}
-use Rattle.std.specs.declared.result.Result.the-variants.{Ok, Err}
+use Rattle.std.specs.declared.option.Option.the-variants.{Some}
 use Rattle.std.proofs.shelf.Lists.{length-append, length-reverse, reverse-append, reverse-reverse, map-append, append-assoc}
 use Rattle.std.proofs.shelf.Tests.{cond-true, cond-false, lt-ltb}
 use Rattle.base.specs.declared.refusals.Refusal.{Refusal}
-use Rattle.base.specs.declared.refusals.Refusal.the-variants.{ListFull}
-use Rattle.base.specs.Refusals.{refusal}
 use Rattle.deque.specs.Contents.{full-refusal}
 use Rattle.algebra.specs.Number.{Number}
 use Rattle.geometry.specs.Plane.{Point}
@@ -23,16 +17,13 @@ use Rattle.taut.specs.declared.Side.{Side}
 use Rattle.taut.specs.declared.Side.the-variants.{Left, Right}
 use Rattle.taut.specs.Sleeve.{other}
 use Rattle.taut.specs.Funnel.{Funnel, push, flip}
+use Rattle.funnel.proofs.FromTheRight.{held}
 use Rattle.funnel.specs.declared.Corner.{Corner}
 use Rattle.funnel.specs.Corners.{vertex-meant}
 use Rattle.funnel.specs.Ends.{seen}
 use Rattle.funnel.specs.declared.Portal.{Portal}
 use Rattle.funnel.specs.declared.Chains.{Chains}
 use Rattle.funnel.specs.Chains.{meant, Holds, Stands, Flips, Nears, Gains, Widens}
-
-abbrev held : {X : Type 0} → Option X → ℕ
-held None = 0
-held (Some x) = 1
 
 seen-length : {X : Type 0} (t : Side) (l : List X) → length (seen t l) ≡ length l
 seen-length Left l = refl

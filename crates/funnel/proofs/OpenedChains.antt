@@ -5,8 +5,6 @@ use Prim.Native.Nat.{ℕ, _<_}
 use native.Mathlib.Omega.{arith}
 use lib.ListN.{length}
 use Rattle.std.specs.Results.{Cases}
-use Rattle.std.specs.declared.option.Option.{Option}
-use Rattle.std.specs.declared.option.Option.the-variants.{Some, None}
 use Rattle.std.specs.declared.result.Result.{Result}
 use Rattle.std.specs.declared.result.Result.the-variants.{Ok, Err}
 use Rattle.std.proofs.shelf.Tests.{cond-true, lt-ltb}
@@ -14,12 +12,9 @@ use Rattle.base.specs.declared.refusals.Refusal.{Refusal}
 use Rattle.base.specs.Refusals.{refusal}
 use Rattle.deque.specs.Contents.{full-refusal}
 use Rattle.geometry.specs.Plane.{Point}
+use Rattle.funnel.proofs.FromTheRight.{held}
 use Rattle.funnel.specs.declared.Corner.{Corner}
 use Rattle.funnel.specs.Chains.{Holds, no-chains}
-
-abbrev held : {X : Type 0} → Option X → ℕ
-held None = 0
-held (Some x) = 1
 
 put-first : {X : Type 0} (Q : Type 0) (l l′ : List X) (c : X) (size : ℕ) (r : Result Unit Refusal) → l ≡ [] → 0 < size → refusal r ≡ full-refusal l size
     → Cases r (λ _. l′ ≡ c ∷ l) (λ _. Q) → l′ ≡ c ∷ []

@@ -2,13 +2,13 @@
 use mathlib.Core.Bool.{Bool, true, false}
 use mathlib.Core.Path.{_≡_, refl, sym, ap, _∙_, subst}
 use mathlib.Core.List.{List, [], _∷_, _++_, map}
-use Prim.Native.Nat.{ℕ, suc, _+_, _-_, _<_, _≤_}
+use Prim.Native.Nat.{ℕ, _+_, _-_, _<_, _≤_}
 use native.Mathlib.Omega.{arith}
 use lib.ListN.{length}
 use Rattle.algebra.specs.Number.{Number, quadratics, sign}
 use Rattle.geometry.specs.Plane.{Point}
 use Rattle.taut.specs.declared.Side.{Side}
-use Rattle.taut.specs.Sleeve.{other, Vertex}
+use Rattle.taut.specs.Sleeve.{other}
 use Rattle.taut.specs.TautString.{aim}
 use Rattle.taut.specs.Funnel.{Funnel, bears, next}
 use Rattle.taut.proofs.Popping.{drops-corner, keeps-corner, moves-apex, keeps-apex}

@@ -1,14 +1,14 @@
 -- A string, walked from its start: what is behind and what is ahead measure together what the whole string does.
-use mathlib.Core.Path.{_≡_, refl, sym, ap, _∙_, subst}
+use mathlib.Core.Path.{_≡_, sym, ap, _∙_, subst}
 use mathlib.Core.List.{List, [], _∷_, _++_, map}
 use Prim.Native.Nat.{ℕ, suc, _*_, _-_, _+_, _≤_, _<_}
 use native.Mathlib.Omega.{arith}
 use lib.ListN.{length, getD, take, drop}
-use lib.IntN.{ℤ, pos, _+ℤ_}
+use lib.IntN.{ℤ, _+ℤ_}
 use Rattle.std.proofs.shelf.Signed.{ints}
 use Rattle.std.proofs.shelf.Lists.{take-rest}
 use Rattle.algebra.specs.Bounds.{Within}
-use Rattle.algebra.specs.Number.{Number, number, _⊕_}
+use Rattle.algebra.specs.Number.{number, _⊕_}
 use Rattle.algebra.specs.Values.{value}
 use Rattle.algebra.specs.declared.Quadratic.{Quadratic}
 use Rattle.algebra.proofs.Quadratics.{quadratic-ring}

@@ -1,10 +1,6 @@
 use borrow.Author.Needs.{needs}
-use mathlib.Core.Path.{_≡_, sym}
-use mathlib.Core.Bool.{true, false}
+use mathlib.Core.Path.{sym}
 use native.Mathlib.Omega.{arith}
-use Prim.Native.Nat.{_<_}
-use Rattle.algebra.specs.Number.{quadratics, sign}
-use Rattle.taut.specs.Funnel.{bears}
 use Rattle.funnel.proofs.FromTheRight.{taken}
 use Rattle.funnel.proofs.SettledChains.{two, near-stays, near-drops}
 use Rattle.funnel.proofs.Chains.drop_near.Needs as need

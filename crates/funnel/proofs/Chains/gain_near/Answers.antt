@@ -1,5 +1,3 @@
-use native.Mathlib.Omega.{arith}
-use mathlib.Core.Path.{_∙_}
 use Rattle.funnel.proofs.Chains.gain_near.Needs as need
 
 pub returns : need.returns

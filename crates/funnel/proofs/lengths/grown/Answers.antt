@@ -1,7 +1,4 @@
-use borrow.Author.Needs.{needs}
-use mathlib.Core.Path.{_≡_}
 use native.Mathlib.Omega.{arith}
-use lib.IntN.{_+ℤ_}
 use Rattle.std.proofs.shelf.Signed.{ints}
 use Rattle.funnel.proofs.StringLengths.{same-number}
 use Rattle.funnel.proofs.lengths.grown.Needs as need
