@@ -50,18 +50,30 @@ module _ {P : Type 0} (at : P → Point) (e : Point) (t : Side) (l bends : List 
 
   pub put-near : (l′ : List (Corner P)) (c : Corner P) (near′ : ℕ) → seen t l′ ≡ c ∷ seen t l → near′ ≡ near + 1 → Holds at e (seen t l′) near′ far bends (n + 1) (push (vertex-meant at c) f)
   put-near l′ c near′ put more = record {
-    nears = c ∷ h .nears; apex = h .apex; fars = h .fars; parts = put ∙ ap (λ r. c ∷ r) (h .parts); near-count = omega (arith, h .near-count, more); far-count = h .far-count;
-    top = h .top; is = ap (push (vertex-meant at c)) (h .is); few = omega (arith, h .few, more) }
+    nears = c ∷ h .nears;
+    apex = h .apex;
+    fars = h .fars;
+    parts = put ∙ ap (λ r. c ∷ r) (h .parts);
+    near-count = omega (arith, h .near-count, more);
+    far-count = h .far-count;
+    top = h .top;
+    is = ap (push (vertex-meant at c)) (h .is);
+    few = omega (arith, h .few, more);
+  }
 
   pub flipped : Holds at e (seen (other t) l) far near bends n (flip f)
   flipped = record {
-    nears = reverse (h .fars); apex = h .apex; fars = reverse (h .nears);
+    nears = reverse (h .fars);
+    apex = h .apex;
+    fars = reverse (h .nears);
     parts = seen-other t l ∙ ap reverse (h .parts) ∙ reverse-append (h .nears) (h .apex ∷ h .fars)
         ∙ ap (λ r. r ++ reverse (h .nears)) (reverse-append (h .apex ∷ []) (h .fars)) ∙ append-assoc (reverse (h .fars)) (h .apex ∷ []) (reverse (h .nears));
-    near-count = omega (arith, h .far-count, length-reverse (h .fars)); far-count = omega (arith, h .near-count, length-reverse (h .nears));
+    near-count = omega (arith, h .far-count, length-reverse (h .fars));
+    far-count = omega (arith, h .near-count, length-reverse (h .nears));
     top = h .top;
     is = (λ i. record { near = map-reverse (vertex-meant at) (h .fars) i; final = meant at [] bends [] .final; far = map-reverse (vertex-meant at) (h .nears) i }) ∙ ap flip (h .is);
-    few = omega (arith, h .few) }
+    few = omega (arith, h .few);
+  }
 
 abbrev number : Side → ℕ
 number Left = 0

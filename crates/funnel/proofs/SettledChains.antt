@@ -64,8 +64,12 @@ module _ {P : Type 0} (at : P → Point) (e : Point) (t : Side) (y : Point) wher
               let same : x ≡ c = cc in
               let tail : ns ++ a ∷ zs ≡ d ∷ rest = cc in
               let test = (λ i. bears quadratics sign t y (at (same i .point)) (sym (next-is ns bends zs a d rest top tail) i)) ∙ turns in
-              record { now = f; holds = h; same = refl;
-                done = λ _. ap (settled at e t y) (sym is) ∙ keeps-corner quadratics sign e t y (vertex-meant at x) (map (vertex-meant at) ns) (map (vertex-meant at) zs) (map (bend-of at) bends) test ∙ is }
+              record {
+                now = f;
+                holds = h;
+                same = refl;
+                done = λ _. ap (settled at e t y) (sym is) ∙ keeps-corner quadratics sign e t y (vertex-meant at x) (map (vertex-meant at) ns) (map (vertex-meant at) zs) (map (bend-of at) bends) test ∙ is;
+              }
 
       pub near-drops : (row′ : List (Corner P)) → row ≡ c ∷ row′ → 0 < near → bears quadratics sign t y (at (c .point)) (at (d .point)) ≡ false
           → Turned at e t y f row′ (near - 1) far bends n true
@@ -79,10 +83,12 @@ module _ {P : Type 0} (at : P → Point) (e : Point) (t : Side) (y : Point) wher
               let tail : ns ++ a ∷ zs ≡ d ∷ rest = cc in
               let left : row′ ≡ ns ++ a ∷ zs = cc in
               let test = (λ i. bears quadratics sign t y (at (same i .point)) (sym (next-is ns bends zs a d rest top tail) i)) ∙ turns in
-              record { now = meant at ns bends zs;
+              record {
+                now = meant at ns bends zs;
                 holds = record { nears = ns; apex = a; fars = zs; parts = left; near-count = omega arith; far-count = m; top = top; is = refl; few = omega (arith, h .few) };
                 same = ap (settled at e t y) (sym is) ∙ drops-corner quadratics sign e t y (vertex-meant at x) (map (vertex-meant at) ns) (map (vertex-meant at) zs) (map (bend-of at) bends) test;
-                done = λ no. absurd (differ no) }
+                done = λ no. absurd (differ no);
+              }
 
       pub apex-stays : near ≡ 0 → bears quadratics sign (other t) y (at (d .point)) (at (c .point)) ≡ false → Turned at e t y f row near far bends n false
       apex-stays none turns = by (h .nears) (h .apex) (h .fars) (h .parts) (h .near-count) (h .top) (h .is)
@@ -95,8 +101,12 @@ module _ {P : Type 0} (at : P → Point) (e : Point) (t : Side) (y : Point) wher
               let same : c ≡ a = cc in
               let here : z ≡ d = cc in
               let test = (λ i. bears quadratics sign (other t) y (at (here i .point)) (sym (ap (λ v. at (v .point)) same ∙ top) i)) ∙ turns in
-              record { now = f; holds = h; same = refl;
-                done = λ _. ap (settled at e t y) (sym is) ∙ keeps-apex quadratics sign e t y (vertex-meant at z) (map (vertex-meant at) zs) (map (bend-of at) bends) test ∙ is }
+              record {
+                now = f;
+                holds = h;
+                same = refl;
+                done = λ _. ap (settled at e t y) (sym is) ∙ keeps-apex quadratics sign e t y (vertex-meant at z) (map (vertex-meant at) zs) (map (bend-of at) bends) test ∙ is;
+              }
 
       pub apex-moves : (row′ bends′ : List (Corner P)) (b : Corner P) → row ≡ c ∷ row′ → bends′ ≡ b ∷ bends → b .vertex ≡ d .vertex → b .side ≡ other t → b .point ≡ d .point → near ≡ 0
           → bears quadratics sign (other t) y (at (d .point)) (at (c .point)) ≡ true → Turned at e t y f row′ near (far - 1) bends′ n true
@@ -113,15 +123,25 @@ module _ {P : Type 0} (at : P → Point) (e : Point) (t : Side) (y : Point) wher
               let test = (λ i. bears quadratics sign (other t) y (at (here i .point)) (sym (ap (λ v. at (v .point)) same ∙ top) i)) ∙ turns in
               let bend : bend-of at b ≡ record { side = other t; vertex = vertex-meant at z } =
               λ i. record { side = side i; vertex = record { number = (vertex ∙ ap (λ v. v .vertex) (sym here)) i .0; point = at ((point ∙ ap (λ v. v .point) (sym here)) i) } } in
-              record { now = meant at [] bends′ zs;
-                holds = record { nears = []; apex = z; fars = zs; parts = left; near-count = q; far-count = omega arith;
+              record {
+                now = meant at [] bends′ zs;
+                holds = record {
+                  nears = [];
+                  apex = z;
+                  fars = zs;
+                  parts = left;
+                  near-count = q;
+                  far-count = omega arith;
                   top = ap (λ v. at (v .point)) here ∙ ap at (sym point) ∙ ap (λ l. aim quadratics e (map (bend-of at) l)) (sym put);
-                  is = refl; few = omega (arith, h .few, ap length put) };
+                  is = refl;
+                  few = omega (arith, h .few, ap length put);
+                };
                 same = ap (settled at e t y) (sym is)
                     ∙ moves-apex quadratics sign e t y (vertex-meant at z) (map (vertex-meant at) zs) (map (bend-of at) bends) test
                     ∙ ap (λ v. settled at e t y (record { near = []; final = v ∷ map (bend-of at) bends; far = map (vertex-meant at) zs })) (sym bend)
                     ∙ ap (λ l. settled at e t y (meant at [] l zs)) (sym put);
-                done = λ no. absurd (differ no) }
+                done = λ no. absurd (differ no);
+              }
 
   -- many turns
   pub turned-on : (row bends row′ bends′ : List (Corner P)) (near far near′ far′ n : ℕ) (more : Bool) (f : Funnel Number) (a : Turned at e t y f row near far bends n true)

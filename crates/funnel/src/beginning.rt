@@ -32,7 +32,7 @@ impl<P: PointKind> Chains<P> {
     }
 
     // The funnel between the ends of the last portal and the end point.
-    pub fn open(slots: &mut [Corner<P>], end: P, portal: Portal<P>) -> Chains<P>
+    pub(crate) fn open(slots: &mut [Corner<P>], end: P, portal: Portal<P>) -> Chains<P>
         ensures opens { λ r. ⌜ Opens at end portal r (now (slots .exit)) ⌝ }
         ensures size { λ _. ⌜ length (now (slots .exit)) ≡ length (now (slots .entry)) ⌝ }
     {

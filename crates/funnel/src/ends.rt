@@ -65,7 +65,12 @@ pub fn pop<T: Copy>(row: &mut Deque<T>, slots: &[T], side: Side) -> Option<T>
 }
 
 // Puts an element at the side.
-pub fn push<T: Copy>(row: &mut Deque<T>, slots: &mut [T], side: Side, element: T) -> Result<(), Refusal>
+pub fn push<T: Copy>(
+    row: &mut Deque<T>,
+    slots: &mut [T],
+    side: Side,
+    element: T,
+) -> Result<(), Refusal>
     ensures verdict { λ r. ⌜ refusal r ≡ fullRefusal (contents (now (row .entry)) (now (slots .entry))) (length (now (slots .entry))) ⌝ }
     ensures effect { λ r. ⌜ Cases r
         (λ _. seen side (contents (now (row .exit)) (now (slots .exit))) ≡ element ∷ seen side (contents (now (row .entry)) (now (slots .entry))))

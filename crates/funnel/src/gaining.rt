@@ -32,7 +32,13 @@ impl<P: PointKind> Chains<P> {
     }
 
     // Settles the chains for a new near end and puts it there.
-    fn gain_near(&mut self, slots: &mut [Corner<P>], places: &mut [Corner<P>], side: Side, corner: Corner<P>)
+    fn gain_near(
+        &mut self,
+        slots: &mut [Corner<P>],
+        places: &mut [Corner<P>],
+        side: Side,
+        corner: Corner<P>,
+    )
         ensures nears { λ _. ⌜ Nears at side corner (now (self .entry)) (now (slots .entry)) (now (places .entry)) (now (self .exit)) (now (slots .exit)) (now (places .exit)) ⌝ }
         ensures slots { λ _. ⌜ length (now (slots .exit)) ≡ length (now (slots .entry)) ⌝ }
         ensures places { λ _. ⌜ length (now (places .exit)) ≡ length (now (places .entry)) ⌝ }
@@ -42,7 +48,13 @@ impl<P: PointKind> Chains<P> {
     }
 
     // Takes in a new end on a side, seen from the left before and after.
-    pub fn gain(&mut self, slots: &mut [Corner<P>], places: &mut [Corner<P>], side: Side, corner: Corner<P>)
+    pub(crate) fn gain(
+        &mut self,
+        slots: &mut [Corner<P>],
+        places: &mut [Corner<P>],
+        side: Side,
+        corner: Corner<P>,
+    )
         ensures gains { λ _. ⌜ Gains at side corner (now (self .entry)) (now (slots .entry)) (now (places .entry)) (now (self .exit)) (now (slots .exit)) (now (places .exit)) ⌝ }
         ensures slots { λ _. ⌜ length (now (slots .exit)) ≡ length (now (slots .entry)) ⌝ }
         ensures places { λ _. ⌜ length (now (places .exit)) ≡ length (now (places .entry)) ⌝ }
@@ -58,7 +70,13 @@ impl<P: PointKind> Chains<P> {
     }
 
     // Goes from a portal to the portal before it: the end that they do not share is new.
-    pub fn widen(&mut self, slots: &mut [Corner<P>], places: &mut [Corner<P>], before: Portal<P>, present: Portal<P>)
+    pub(crate) fn widen(
+        &mut self,
+        slots: &mut [Corner<P>],
+        places: &mut [Corner<P>],
+        before: Portal<P>,
+        present: Portal<P>,
+    )
         ensures widens { λ _. ⌜ Widens at before present (now (self .entry)) (now (slots .entry)) (now (places .entry)) (now (self .exit)) (now (slots .exit)) (now (places .exit)) ⌝ }
         ensures slots { λ _. ⌜ length (now (slots .exit)) ≡ length (now (slots .entry)) ⌝ }
         ensures places { λ _. ⌜ length (now (places .exit)) ≡ length (now (places .entry)) ⌝ }

@@ -25,7 +25,13 @@ fn grown(total: Length, piece: Quadratic) -> Length
 }
 
 // How long a string is that goes from a start over its bends to an end.
-pub fn string_length<M: Mesh, G: Gauge>(mesh: &M, gauge: &G, start: M::Point, bends: &[Bend], end: M::Point) -> Length
+pub fn string_length<M: Mesh, G: Gauge>(
+    mesh: &M,
+    gauge: &G,
+    start: M::Point,
+    bends: &[Bend],
+    end: M::Point,
+) -> Length
     ensures { λ r. ⌜ lengthValue r ≡ span (forms (now (gauge .entry))) (Point·PointKind .at start) (map (bendPoint (surface (now (mesh .entry)))) (now (bends .entry)) ++ Point·PointKind .at end ∷ []) ⌝ }
 {
     let mut total = Length { p: 0, q: 0 };

@@ -47,7 +47,13 @@ impl<P: PointKind> Chains<P> {
     }
 
     // Makes the next corner of the far chain the apex and a bend, if it stands strictly in the way from a point to the apex.
-    fn move_apex(&mut self, slots: &[Corner<P>], places: &mut [Corner<P>], side: Side, from: P) -> bool
+    fn move_apex(
+        &mut self,
+        slots: &[Corner<P>],
+        places: &mut [Corner<P>],
+        side: Side,
+        from: P,
+    ) -> bool
         requires { ⌜ now self .near ≡ 0 ⌝ ∗ ⌜ 0 < now self .far ⌝ }
         ensures turns { λ r. ⌜ Turns at side (at from) (now (self .entry)) (now (slots .entry)) (now (places .entry)) (now (self .exit)) (now (places .exit)) r ⌝ }
         ensures fewer { λ r. ⌜ (r ≡ true → now (self .exit) .near + now (self .exit) .far < now (self .entry) .near + now (self .entry) .far) ⌝ }
@@ -74,7 +80,13 @@ impl<P: PointKind> Chains<P> {
     }
 
     // One turn of the loop: whether it changed anything.
-    fn drop_corner(&mut self, slots: &[Corner<P>], places: &mut [Corner<P>], side: Side, from: P) -> bool
+    fn drop_corner(
+        &mut self,
+        slots: &[Corner<P>],
+        places: &mut [Corner<P>],
+        side: Side,
+        from: P,
+    ) -> bool
         ensures turns { λ r. ⌜ Turns at side (at from) (now (self .entry)) (now (slots .entry)) (now (places .entry)) (now (self .exit)) (now (places .exit)) r ⌝ }
         ensures fewer { λ r. ⌜ (r ≡ true → now (self .exit) .near + now (self .exit) .far < now (self .entry) .near + now (self .entry) .far) ⌝ }
         ensures size { λ _. ⌜ length (now (places .exit)) ≡ length (now (places .entry)) ⌝ }
@@ -89,7 +101,13 @@ impl<P: PointKind> Chains<P> {
     }
 
     // Drops all corners that a new near end does not leave.
-    pub fn settle(&mut self, slots: &[Corner<P>], places: &mut [Corner<P>], side: Side, from: P)
+    pub(crate) fn settle(
+        &mut self,
+        slots: &[Corner<P>],
+        places: &mut [Corner<P>],
+        side: Side,
+        from: P,
+    )
         ensures settles { λ _. ⌜ Settles at side (at from) (now (self .entry)) (now (slots .entry)) (now (places .entry)) (now (self .exit)) (now (places .exit)) ⌝ }
         ensures size { λ _. ⌜ length (now (places .exit)) ≡ length (now (places .entry)) ⌝ }
     {

@@ -9,5 +9,9 @@ returns-in-Left g c =
 pub returns-in-Right : need.returns-in-Right
 returns-in-Right g c =
     let done = c .gain-near-in-Right .ensures in
-    record { gains = gained-right (g .P·PointKind .at) (c .args .side) (c .in-Right .is) (c .args .corner) (c .args .self .now) (c .flip .last .self) (c .gain-near-in-Right .last .self) (c .flip-in-Right .last .self) _ _ _ _
-        (c .flip .ensures _ _) (done .nears) (c .flip-in-Right .ensures _ _); slots = done .slots; places = done .places }
+    record {
+      gains = gained-right (g .P·PointKind .at) (c .args .side) (c .in-Right .is) (c .args .corner) (c .args .self .now) (c .flip .last .self) (c .gain-near-in-Right .last .self) (c .flip-in-Right .last .self) _ _ _ _
+          (c .flip .ensures _ _) (done .nears) (c .flip-in-Right .ensures _ _);
+      slots = done .slots;
+      places = done .places;
+    }

@@ -15,7 +15,10 @@ pub returns : need.returns
 returns g c =
     let done = c .in-Ok .ensures tt in
     let fits : length (c .args .slots .now) ≤ 18446744073709551615 = search needs in
-    record { pushes = λ places e n f room h.
-        let small : c .args .self .now .near + 1 ≤ 18446744073709551615 = omega (arith, fits, room, h .few) in
-        let more : c .saturating-add-self .result ≡ c .args .self .now .near + 1 = omega (arith, small, c .saturating-add-self .ensures) in
-        put-near (g .P·PointKind .at) e (c .args .side) _ _ _ _ n f h _ (c .args .corner) _ (done .effect) more; size = done .size }
+    record {
+      pushes = λ places e n f room h.
+          let small : c .args .self .now .near + 1 ≤ 18446744073709551615 = omega (arith, fits, room, h .few) in
+          let more : c .saturating-add-self .result ≡ c .args .self .now .near + 1 = omega (arith, small, c .saturating-add-self .ensures) in
+          put-near (g .P·PointKind .at) e (c .args .side) _ _ _ _ n f h _ (c .args .corner) _ (done .effect) more;
+      size = done .size;
+    }
