@@ -17,11 +17,11 @@ to a = record { p = a.p; q = a.q }
 abbrev of : A.Pair ℤ → Number
 of a = record { p = a.p; q = a.q }
 
-laws : RingLaws (A.opsS (base integers))
-laws = A.lawsS (base integers)
+laws : RingLaws (A.ops_s (base integers))
+laws = A.laws_s (base integers)
 
-order : OrderLaws (A.opsS (base integers)) (A.Positive integers)
-order = A.orderS integers irrational
+order : OrderLaws (A.ops_s (base integers)) (A.Positive integers)
+order = A.order_s integers irrational
 
 nn_to : (x : ℤ) → pos 0 ≤ℤ x → Nn whole_numbers x
 nn_to x h = record { not_neg = λ k. omega (arith, ints) }

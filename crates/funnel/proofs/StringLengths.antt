@@ -31,7 +31,7 @@ roomy_part n k a h (al, ah) = (omega (arith, ints), omega (arith, ints))
 
 module _ {B : Type 0} (place : B → Point) (fs : List Form) (start : Point) (row : List B) (end : Point) (total : Length) (last : Point) where
   pub roomy : (left : List B) → Strung place fs start row end total last left → length row ≤ 18446744073709551615 → Roomy total
-  roomy left w h = (roomy_part _ _ _ h w.p-bound, roomy_part _ _ _ h w.q-bound)
+  roomy left w h = (roomy_part _ _ _ h w.p_bound, roomy_part _ _ _ h w.q_bound)
 
   pub strung_on : (left : List B) (none : B) (here : Point) (piece : Quadratic) (more : Length)
       → Strung place fs start row end total last left → 1 ≤ length left
@@ -47,8 +47,8 @@ module _ {B : Type 0} (place : B → Point) (fs : List Form) (start : Point) (ro
             ∙ ap (λ y. length_value total ⊕ (measure fs (step last y) ⊕ span fs y (map place xs ++ end ∷ []))) e
             ∙ w.sum;
         few = omega (arith, w.few);
-        p_bound = grown_bound (length row) (length xs) total.p piece.p more.p w.few w.p-bound piece.p_within (ap (λ n. n.p) g);
-        q_bound = grown_bound (length row) (length xs) total.q piece.q more.q w.few w.q-bound piece.q_within (ap (λ n. n.q) g);
+        p_bound = grown_bound (length row) (length xs) total.p piece.p more.p w.few w.p_bound piece.p_within (ap (λ n. n.p) g);
+        q_bound = grown_bound (length row) (length xs) total.q piece.q more.q w.few w.q_bound piece.q_within (ap (λ n. n.q) g);
       })
 
   pub strung_out : (left : List B) (piece : Quadratic) (more : Length) → Strung place fs start row end total last left → length left < 1

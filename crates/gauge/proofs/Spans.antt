@@ -39,8 +39,8 @@ walked_on at fs start row total last (x ∷ xs) first piece s p q w some is e f 
           ∙ ap (λ y. length_value total ⊕ (measure fs (step (at last) (at y)) ⊕ span fs (at y) (map at xs))) is
           ∙ w.sum;
       few = omega (arith, w.few);
-      p_bound = grown (length row) (length xs) total.p piece.p p w.few w.p-bound piece.p_within hp;
-      q_bound = grown (length row) (length xs) total.q piece.q q w.few w.q-bound piece.q_within hq;
+      p_bound = grown (length row) (length xs) total.p piece.p p w.few w.p_bound piece.p_within hp;
+      q_bound = grown (length row) (length xs) total.q piece.q q w.few w.q_bound piece.q_within hq;
     })
 
 pub arrived : {P : Type 0} (at : P → Point) (fs : List Form) (start : P) (row : List P) (total : Length) (last : P) (left : List P)

@@ -70,6 +70,6 @@ barred_lawful bars f w = record {
     no_point = w.ended.no_point;
     no_twin = λ h l. ap (unless_barred bars h) (w.ended.no_twin h l);
   };
-  few_triangles = w.few-triangles;
-  few_vertices = w.few-vertices;
+  few_triangles = w.few_triangles;
+  few_vertices = w.few_vertices;
 }

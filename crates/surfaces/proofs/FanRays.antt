@@ -91,12 +91,12 @@ module _ (f : Surface) (sound : Sound f) where
     phase : {s : HalfEdgeId} → Later f s₀ s → Phase quadratic_ring (first_ray s₀) (first_ray s)
     phase {s} (one o) = subst (Phase quadratic_ring (first_ray s₀)) (on_ray s₀ s has o) (early (ray_turn s₀ has))
     phase {s} (more {g = g} k o) =
-        subst (Phase quadratic_ring (first_ray s₀)) (on_ray g s (later_has has k) o) (order.phase-on quadratic_ring (phase k) (clear s₀ g has rim k))
+        subst (Phase quadratic_ring (first_ray s₀)) (on_ray g s (later_has has k) o) (order.phase_on quadratic_ring (phase k) (clear s₀ g has rim k))
 
     in_order : {s h : HalfEdgeId} → Later f s₀ s → Later f s h → Later f s₀ h × Before quadratic_ring (first_ray s₀) (first_ray s) (first_ray h)
     in_order {s} {h} k (one o) =
         let l = later_has has k in
-        (more k o, subst (Before quadratic_ring (first_ray s₀) (first_ray s)) (on_ray s h l o) (order.before-next quadratic_ring (phase k) (ray_turn s l) (clear s₀ s has rim k)))
+        (more k o, subst (Before quadratic_ring (first_ray s₀) (first_ray s)) (on_ray s h l o) (order.before_next quadratic_ring (phase k) (ray_turn s l) (clear s₀ s has rim k)))
     in_order {s} {h} k (more {g = g} j o) =
         let r = in_order k j in
         let l = later_has has r.0 in
@@ -105,7 +105,7 @@ module _ (f : Surface) (sound : Sound f) where
     after_first : {s h : HalfEdgeId} → Later f s₀ s → Later f s h → ¬ (In (first_ray s) (first_ray h) (last_ray h))
     after_first {s} {h} k j =
         let r = in_order k j in
-        order.before-out quadratic_ring (first_ray s₀) (first_ray s) (first_ray h) (last_ray h) r.1 (ray_turn h (later_has has r.0)) (clear s₀ h has rim r.0)
+        order.before_out quadratic_ring (first_ray s₀) (first_ray s) (first_ray h) (last_ray h) r.1 (ray_turn h (later_has has r.0)) (clear s₀ h has rim r.0)
 
   pub apart : {s h : HalfEdgeId} → Has f s → Later f s h → ¬ (In (first_ray s) (first_ray h) (last_ray h))
   apart {s} {h} l k =
@@ -117,7 +117,7 @@ module _ (f : Surface) (sound : Sound f) where
 
   pub apart_before : {h s : HalfEdgeId} → Has f h → Later f h s → ¬ (In (last_ray s) (first_ray h) (last_ray h))
   apart_before {h} {s} l (one o) i =
-      order.next-out quadratic_ring (first_ray h) (last_ray h) (last_ray s) (pos_eq quadratic_ring (ap (λ v. v ⋀ last_ray s) (sym (on_ray h s l o))) (ray_turn s (on_within f sound.twins h s l o))) i
+      order.next_out quadratic_ring (first_ray h) (last_ray h) (last_ray s) (pos_eq quadratic_ring (ap (λ v. v ⋀ last_ray s) (sym (on_ray h s l o))) (ray_turn s (on_within f sound.twins h s l o))) i
   apart_before {h} {s} l (more {g = g} k o) i =
       let m = later_has l k in
       let j = order.steps_back quadratic_ring (first_ray h) (last_ray h) (first_ray s) (last_ray s) (ray_turn h l) (ray_turn s (on_within f sound.twins g s m o)) (apart l (more k o)) i in

@@ -19,14 +19,14 @@ twin_twins f w h d t = elim (split h.0 (3 * f.F)) [
     none_some p q = let z : ◌≡◌ {A = ℕ} 0 1 = cc in omega arith
 
 pub twin_fits : (f : Surface) → Lawful f → (h d : HalfEdgeId) → f.twin h ≡ Some d → d.0 < 65535
-twin_fits f w h d t = omega (arith, (twin_twins f w h d t).within, w.few-triangles)
+twin_fits f w h d t = omega (arith, (twin_twins f w h d t).within, w.few_triangles)
 
 module _ (f : Surface) (w : Lawful f) (h r : HalfEdgeId) (turned : h.0 < 65535 → r ≡ mirror_side h) (nowhere : 65535 ≤ h.0 → r ≡ boundary) where
   pub asked : f.twin r ≡ f.twin (mirror_side h)
   asked = elim (split h.0 65535) [
     | inl l ↦ ap f.twin (turned l)
     | inr l ↦
-        let n = w.few-triangles in
+        let n = w.few_triangles in
         ap f.twin (nowhere l) ∙ w.ended.no_twin boundary (omega arith) ∙ sym (w.ended.no_twin (mirror_side h) (side_past f.F h (omega arith)))
   ]
 

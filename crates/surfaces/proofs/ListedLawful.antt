@@ -59,10 +59,10 @@ nothing_vetted = record {
 
 module _ (l : Lists) (v : ∥ Vetted l ∥₁) where
   corners_all : length l.corners ≡ 3 * l.triangles
-  corners_all = ∥∥₁_elim v (ℕ_set _ _) (λ w. w.all-corners)
+  corners_all = ∥∥₁_elim v (ℕ_set _ _) (λ w. w.all_corners)
 
   sides_all : length l.across ≡ 3 * l.triangles
-  sides_all = ∥∥₁_elim v (ℕ_set _ _) (λ w. w.all-sides)
+  sides_all = ∥∥₁_elim v (ℕ_set _ _) (λ w. w.all_sides)
 
   pub vetted_lawful : Lawful (listed l)
   vetted_lawful = record {
@@ -72,8 +72,8 @@ module _ (l : Lists) (v : ∥ Vetted l ∥₁) where
       no_point = λ p k. get_or_past l.points p.0 origin k;
       no_twin = λ h k. ap leads (get_or_past l.across h.0 boundary (omega (arith, sides_all)));
     };
-    few_triangles = ∥∥₁_elim v le_prop (λ w. w.few-triangles);
-    few_vertices = ∥∥₁_elim v le_prop (λ w. w.few-vertices);
+    few_triangles = ∥∥₁_elim v le_prop (λ w. w.few_triangles);
+    few_vertices = ∥∥₁_elim v le_prop (λ w. w.few_vertices);
   }
 
   -- no point of theirs is refused

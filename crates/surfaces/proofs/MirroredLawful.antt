@@ -102,8 +102,8 @@ mirrored_lawful f w = record {
     no_point = λ v l. ap mirror (w.ended.no_point v l);
     no_twin = λ h l. ap renamed (w.ended.no_twin (mirror_side h) (side_past f.F h l));
   };
-  few_triangles = w.few-triangles;
-  few_vertices = w.few-vertices;
+  few_triangles = w.few_triangles;
+  few_vertices = w.few_vertices;
 }
 
 minus_twice : (a : Number) → minus (minus a) ≡ a

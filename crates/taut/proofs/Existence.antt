@@ -194,7 +194,7 @@ module _ (K : OrderedRing) (e : Vec K.numbers.carrier) where
     left_step fb fb' L R₁ near far (right_apex {m = m} {bs = bs} g) (hooks_on (stops_at tu)) = absurd (no_bend' Left p₀.left.point m.point p.left.point (subst (λ x. Pos (veer N Left (p₀.left.point ⟶ x.point) (p₀.left.point ⟶ p.left.point))) g.is frₗ) tu)
     left_step fb fb' L R₁ near far (right_apex {m = m} {bs = bs} g) (looks (dropped un none_left) no_chain) = (
       flush_thread K e Right p ps h m bs g p₀.left.point frₗ (f Right).1,
-      right_apex (stay K e Right p₀ p ps h (inr k) m bs g k.0 frₗ (f Right).1 (inr g.in-run)),
+      right_apex (stay K e Right p₀ p ps h (inr k) m bs g k.0 frₗ (f Right).1 (inr g.in_run)),
     )
 
   -- ---- a new right end
@@ -217,7 +217,7 @@ module _ (K : OrderedRing) (e : Vec K.numbers.carrier) where
     right_step fb fb' L R₁ near far (right_apex {m = m} {bs = bs} g) (looks none_left (passed no_chain tu)) = absurd (no_bend Right p₀.right.point p.left.point m.point (subst (λ x. Pos (veer N Right (p₀.right.point ⟶ p.left.point) (p₀.right.point ⟶ x.point))) g.is frᵣ) tu)
     right_step fb fb' L R₁ near far (right_apex {m = m} {bs = bs} g) (looks none_left (halts no_chain un)) = subst (λ x. State p₀ (p ∷ ps) (inl k, h) (x ∷ []) (record { side = Right; vertex = m } ∷ bs) (p₀.right ∷ [])) (sym k.0) (opens (to_left p₀ (p ∷ ps) (record { side = Right; vertex = m } ∷ bs) [] [] (leave K e Right p₀ p ps h m bs g k.0 frᵣ (f Right).1)))
     right_step fb fb' L R₁ near far (left_apex {m = m} {bs = bs} g) (hooks_on (stops_at tu)) = absurd (no_bend' Right p₀.right.point m.point p.right.point (subst (λ x. Pos (veer N Right (p₀.right.point ⟶ x.point) (p₀.right.point ⟶ p.right.point))) g.is frᵣ) tu)
-    right_step fb fb' L R₁ near far (left_apex {m = m} {bs = bs} g) (looks (dropped un none_left) no_chain) = left_apex (stay K e Left p₀ p ps h (inl k) m bs g k.0 frᵣ (f Left).1 (inr g.in-run))
+    right_step fb fb' L R₁ near far (left_apex {m = m} {bs = bs} g) (looks (dropped un none_left) no_chain) = left_apex (stay K e Left p₀ p ps h (inl k) m bs g k.0 frᵣ (f Left).1 (inr g.in_run))
 
   -- ---- the funnel at the last portal
   begin : (p : Portal A) → Front N p e → Open K e Left p [] [] [] []

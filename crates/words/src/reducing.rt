@@ -11,8 +11,8 @@ use base::refusals::Refusal;
 fn cancels<L: Letter + Copy>(word: &[L], len: usize, letter: L) -> bool
     requires { len ≤ length word.now }
     ensures { MatchBool result
-        ((0 < len) × (added opposed equal (take len word.now) letter ≡ take (len - 1) word.now))
-        (added opposed equal (take len word.now) letter ≡ take len word.now ++ letter ∷ []) }
+        ((0 < len) × (added L.opposed L.equal (take len word.now) letter ≡ take (len - 1) word.now))
+        (added L.opposed L.equal (take len word.now) letter ≡ take len word.now ++ letter ∷ []) }
 {
     if len == 0 {
         return false;
@@ -24,7 +24,7 @@ fn cancels<L: Letter + Copy>(word: &[L], len: usize, letter: L) -> bool
 // One letter more, where a place is free behind the word.
 fn step<L: Letter + Copy>(word: &mut [L], len: usize, letter: L) -> usize
     requires { len < length word.old }
-    ensures { Stands (added opposed equal (take len word.old) letter) result word.old word.new }
+    ensures { Stands (added L.opposed L.equal (take len word.old) letter) result word.old word.new }
 {
     if cancels(word, len, letter) {
         len - 1
@@ -37,9 +37,9 @@ fn step<L: Letter + Copy>(word: &mut [L], len: usize, letter: L) -> usize
 // Adds a letter to the word in the first `len` places, and answers how many letters it has then.
 // A letter that cancels with the last needs no place of its own.
 pub fn add<L: Letter + Copy>(word: &mut [L], len: usize, letter: L) -> Result<usize, Refusal>
-    ensures verdict { refusal result ≡ add_refusal opposed equal word.old len letter }
+    ensures verdict { refusal result ≡ add_refusal L.opposed L.equal word.old len letter }
     ensures effect { MatchResult result
-        (λ n. Stands (added opposed equal (take len word.old) letter) n word.old word.new)
+        (λ n. Stands (added L.opposed L.equal (take len word.old) letter) n word.old word.new)
         (λ _. word.new ≡ word.old) }
 {
     if len < word.len() {
@@ -56,12 +56,12 @@ pub fn add<L: Letter + Copy>(word: &mut [L], len: usize, letter: L) -> Result<us
 // Reduces the word that the slice holds, and answers how many letters are left. They stand in the first places;
 // the places that were never needed on the way hold what they held.
 pub fn reduce<L: Letter + Copy>(word: &mut [L]) -> usize
-    ensures word { take result word.new ≡ reduction opposed equal word.old }
-    ensures long { result ≡ length (reduction opposed equal word.old) }
+    ensures word { take result word.new ≡ reduction L.opposed L.equal word.old }
+    ensures long { result ≡ length (reduction L.opposed L.equal word.old) }
     ensures within { result ≤ length word.old }
-    ensures reduced { Reduced opposed (take result word.new) }
-    ensures homotopic { Homotopic opposed word.old (take result word.new) }
-    ensures rest { drop (peak opposed equal [] word.old) word.new ≡ drop (peak opposed equal [] word.old) word.old }
+    ensures reduced { Reduced L.opposed (take result word.new) }
+    ensures homotopic { Homotopic L.opposed word.old (take result word.new) }
+    ensures rest { drop (peak L.opposed L.equal [] word.old) word.new ≡ drop (peak L.opposed L.equal [] word.old) word.old }
 {
     let mut n = 0;
     for i in 0..word.len() {
@@ -73,7 +73,7 @@ pub fn reduce<L: Letter + Copy>(word: &mut [L]) -> usize
 
 // The laws of reduction, for every sort of letter.
 pub fn reductions_stand<L: Letter>() -> u8
-    ensures { Reductions opposed equal }
+    ensures { Reductions L.opposed L.equal }
 {
     0
 }

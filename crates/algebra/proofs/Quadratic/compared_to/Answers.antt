@@ -10,4 +10,4 @@ returns c =
     let oq : SFits w64 c.args.other.q = search rules in
     let fp : SFits w64 (c.args.self.p -ℤ c.args.other.p) = omega (arith, ints) in
     let fq : SFits w64 (c.args.self.q -ℤ c.args.other.q) = omega (arith, ints) in
-    simp to_z-of_z at c.sign-of.ensures
+    simp to_z-of_z at c.sign_of.ensures

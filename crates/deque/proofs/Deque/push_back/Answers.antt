@@ -9,7 +9,7 @@ returns-then-is-full g c =
 
 pub returns : goal.returns
 returns g c =
-    let room : c.read-over-list.result.len < length c.args.slots.now = omega (arith, c.if-is-full.ensures) in
+    let room : c.read_over-list.result.len < length c.args.slots.now = omega (arith, c.if-is_full.ensures) in
     record {
       verdict = search (rules, push_fits);
       effect = search (rules, pushed_back);

@@ -11,8 +11,8 @@ returns-then-is-full g c =
 
 pub returns : goal.returns
 returns g c =
-    let room : c.read-over-list.result.len < length c.args.slots.now = omega (arith, c.if-is-full.ensures) in
-    let next : Next (length c.args.slots.now) c.if-list-eq0.i c.read-over-list.result.head =
+    let room : c.read_over-list.result.len < length c.args.slots.now = omega (arith, c.if-is_full.ensures) in
+    let next : Next (length c.args.slots.now) c.if-list-eq0.i c.read_over-list.result.head =
     elim c.if-list-eq0.branch [
       | then-list-eq0 w ↦ inr (w.if-list-eq0.true, omega (arith, w.i-is))
       | else-list-eq0 w ↦ inl (omega (arith, w.i-is))

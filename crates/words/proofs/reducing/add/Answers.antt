@@ -4,7 +4,7 @@ use Rattle.base.specs.declared.refusals.Refusal.TheVariants.{OutputShort}
 use Rattle.words.specs.Places.{add_refusal}
 use Rattle.words.proofs.LettersInPlaces.{add_fits_before, add_lacks_word, add_lacks_letter}
 use Rattle.words.proofs.reducing.add.Goals as goal
-use Rattle.words.proofs.reducing.add.Goals.{else_len_word_2_via_then_len_word_2+else_cancels, else-len-word-2-via-else-len-word-2}
+use Rattle.words.proofs.reducing.add.Goals.{else-len-word-2-via-then-len-word-2+else-cancels, else-len-word-2-via-else-len-word-2}
 
 pub returns-then-len-word : goal.returns-then-len-word
 returns-then-len-word g c =
@@ -22,7 +22,7 @@ returns g c =
     let len = c.args.len in
     let lacks : add_refusal m.opposed m.equal places len c.args.letter ≡ Some (OutputShort (min (len + 1) (2 ^ 64 - 1))) =
     elim c.else-len-word-2.branch [
-      | else_len_word_2_via_then_len_word_2+else_cancels w ↦
+      | else-len-word-2-via-then-len-word-2+else-cancels w ↦
           add_lacks_letter m.opposed m.equal lawful places _ _ (omega (arith, w.if-len-word-2.true)) (when_false _ _ w.if-cancels.false w.cancels.ensures)
       | else-len-word-2-via-else-len-word-2 w ↦ add_lacks_word m.opposed m.equal lawful places _ _ (omega (arith, w.if-len-word-2.false))
     ] in
