@@ -1,4 +1,6 @@
 // Exact numbers p + q√2. Their size stands in the type, so that no operation can overflow and none asks anything of its caller.
+#![tactic(auto)]
+
 ghost use Rattle.algebra.specs.Bounds.{Within};
 
 pub mod laws;

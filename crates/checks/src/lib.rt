@@ -1,5 +1,7 @@
 // Tests of the layers below the program, by examples.
 
+#![tactic(auto)]
+
 #[cfg(test)]
 mod tests {
     use algebra::{Quadratic, Sign};

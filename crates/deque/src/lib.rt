@@ -1,4 +1,6 @@
 // A double-ended list of any kind of element, over memory that its owner hands in at each call.
+#![tactic(auto)]
+
 ghost use Rattle.std.specs.Prelude.{◌≡◌, ◌+◌, ◌-◌, ◌<◌, ◌≤◌, List, [], ◌∷◌, ◌++◌, length, MatchBool, MatchOption, MatchResult, ◌≢◌};
 ghost use Rattle.std.specs.List.{slice_get};
 ghost use Rattle.base.specs.Refusals.{refusal};

@@ -1,4 +1,6 @@
 // The funnel in code: it runs over any mesh and finds the bends of the taut string.
+#![tactic(auto)]
+
 mod beginning;
 pub mod ends;
 mod gaining;

@@ -1,4 +1,6 @@
 // Gauges: how far a step is, as the largest value of a row of linear forms.
+#![tactic(auto)]
+
 pub mod gauges;
 pub mod laws;
 pub mod rows;

@@ -1,4 +1,6 @@
 // Points with exact coordinates, the steps between them, and the way in which three of them turn.
+#![tactic(auto)]
+
 ghost use Rattle.algebra.specs.Bounds.{Within};
 
 use coordinates::{Coordinate, Offset};

@@ -1,4 +1,6 @@
 // Reads a script from standard input, does what each line says, and prints each action.
+#![tactic(auto)]
+
 mod command;
 mod current;
 mod described;

@@ -1,4 +1,6 @@
 // What a mesh means, when it is sound, and the test of lists that says which.
+#![tactic(auto)]
+
 mod fans;
 pub mod laws;
 mod scans;

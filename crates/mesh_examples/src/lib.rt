@@ -1,4 +1,6 @@
 // Small meshes and what becomes of them.
+#![tactic(auto)]
+
 ghost use Rattle.std.specs.Prelude.{◌≡◌, Ok, Err};
 ghost use Rattle.base.specs.Ids.{vertex, half_edge};
 ghost use Rattle.base.specs.declared.refusals.Refusal.TheVariants.{ClosedFan, FullTurn};

@@ -1,4 +1,6 @@
 // Meshes: whatever answers for a surface. One reads lent lists, one computes a perforated sheet, and two are layers over any other.
+#![tactic(auto)]
+
 ghost use Rattle.std.specs.Prelude.{◌≡◌};
 ghost use Rattle.mesh.specs.Surface.{Surface};
 ghost use Rattle.surfaces.specs.Lawful.{Lawful, CornersOf};

@@ -1,4 +1,6 @@
 // The walk of a lead, kept without spurs.
+#![tactic(auto)]
+
 ghost use Rattle.std.specs.Prelude.{◌≡◌, ◌≤◌, length};
 
 use words::sorts::Crossing;

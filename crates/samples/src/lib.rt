@@ -1,3 +1,5 @@
 // Small users of the crates below, proved from their contracts alone.
+#![tactic(auto)]
+
 pub mod lists;
 pub mod spurs;

@@ -1,4 +1,6 @@
 // Runs the cases of a vector file from standard input, and says which of them differ.
+#![tactic(auto)]
+
 mod answer;
 mod layers;
 mod lists;

@@ -1,4 +1,6 @@
 // Walks from triangle to triangle on a surface: their portals, and what holds of their taut strings. Each call is a statement with its proof; what it returns says nothing.
+#![tactic(auto)]
+
 ghost use Rattle.walks.specs.Laws.{WalkLaws, SleeveLaw, ExactlyOne, ShortestOfAll, BackLaw, EqualWalks, SameStringSameClass};
 
 // Walks are joined, parted, reduced and walked back.

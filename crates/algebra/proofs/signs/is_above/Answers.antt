@@ -3,14 +3,14 @@ use mir.Syntax.{w128}
 use Rattle.algebra.proofs.Magnitudes.{gap_fits, above_first, above_second}
 use Rattle.algebra.proofs.signs.is_above.Goals as goal
 
-pub overflow-sub-result : goal.overflow-sub-result
-overflow-sub-result c =
+pub overflow_sub-result : goal.overflow_sub-result
+overflow_sub-result c =
     let fp : SFits w128 c.squared-pp.result.n = search rules in
     let fq : SFits w128 c.squared-qq.result.n = search rules in
     simp to_z-of_z (gap_fits _ _ c.squared-pp.result.low c.squared-pp.result.high c.squared-qq.result.low c.squared-qq.result.high)
 
-pub overflow-sub-result-then-q-lt0 : goal.overflow-sub-result-then-q-lt0
-overflow-sub-result-then-q-lt0 c =
+pub overflow_sub-result-then-q-lt0 : goal.overflow_sub-result-then-q-lt0
+overflow_sub-result-then-q-lt0 c =
     let fp : SFits w128 c.squared-pp.result.n = search rules in
     let fq : SFits w128 c.squared-qq.result.n = search rules in
     simp to_z-of_z (gap_fits _ _ c.squared-pp.result.low c.squared-pp.result.high c.squared-qq.result.low c.squared-qq.result.high)

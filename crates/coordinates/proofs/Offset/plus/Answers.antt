@@ -6,5 +6,5 @@ use Rattle.coordinates.proofs.Offset.plus.Goals as goal
 pub returns : goal.returns
 returns c = same_number (omega (arith, ints)) (omega (arith, ints))
 
-pub invariant-of-result : goal.invariant-of-result
-invariant-of-result c = ((omega (arith, ints), omega (arith, ints)), ((omega (arith, ints), omega (arith, ints)), tt))
+pub invariant_of-result : goal.invariant_of-result
+invariant_of-result c = ((omega (arith, ints), omega (arith, ints)), ((omega (arith, ints), omega (arith, ints)), tt))

@@ -2,8 +2,8 @@ use Rattle.std.proofs.Common.{w32, w64, SFits, rules}
 use Rattle.algebra.proofs.Magnitudes.{part_product, part_bound}
 use Rattle.coordinates.proofs.products.product_of.Goals as goal
 
-pub invariant-of-result : goal.invariant-of-result
-invariant-of-result c =
+pub invariant_of-result : goal.invariant_of-result
+invariant_of-result c =
     let f : SFits w32 c.args.a.n = search rules in
     let g : SFits w32 c.args.b.n = search rules in
     (part_bound _ _ _ c.args.a.within c.args.b.within (part_product _ _ f g c.args.a.within c.args.b.within), tt)

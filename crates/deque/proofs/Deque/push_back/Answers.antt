@@ -2,9 +2,9 @@ use Rattle.std.proofs.Common.{◌<◌, length, arith, length-set, rules}
 use Rattle.deque.proofs.ListEquations.{push_fits, push_lacks, pushed_back, length_contents}
 use Rattle.deque.proofs.Deque.push_back.Goals as goal
 
-pub returns-then-is-full : goal.returns-then-is-full
-returns-then-is-full g c =
-    let full = c.if-is-full.ensures in
+pub returns-then-is_full : goal.returns-then-is_full
+returns-then-is_full g c =
+    let full = c.if-is_full.ensures in
     search (rules, push_lacks, length_contents)
 
 pub returns : goal.returns

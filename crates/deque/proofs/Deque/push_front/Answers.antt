@@ -4,9 +4,9 @@ use Rattle.deque.proofs.ListEquations.{push_fits, push_lacks, pushed_front, leng
 use Rattle.deque.proofs.Deque.push_front.Goals as goal
 use Rattle.deque.proofs.Deque.push_front.Goals.{then-list-eq0, else-list-eq0}
 
-pub returns-then-is-full : goal.returns-then-is-full
-returns-then-is-full g c =
-    let full = c.if-is-full.ensures in
+pub returns-then-is_full : goal.returns-then-is_full
+returns-then-is_full g c =
+    let full = c.if-is_full.ensures in
     search (rules, push_lacks, length_contents)
 
 pub returns : goal.returns

@@ -4,10 +4,10 @@ use Rattle.funnel.proofs.Chains.at_end.Goals as goal
 
 pub returns : goal.returns
 returns g c =
-    let done = c.push-front.ensures in
+    let done = c.push_front.ensures in
     record {
       begins = λ places some.
           let room : 0 < length c.args.slots.now = omega (arith, some, done.size) in
-          alone g.P.PointKind.at _ _ _ _ _ _ c.push-front.result (c.new-row.ensures.empty _) (c.new.ensures.empty places) room done.verdict done.effect;
+          alone g.P.PointKind.at _ _ _ _ _ _ c.push_front.result (c.new-row.ensures.empty _) (c.new.ensures.empty places) room done.verdict done.effect;
       size = done.size;
     }

@@ -3,10 +3,10 @@ use Rattle.funnel.proofs.FromTheRight.{taken}
 use Rattle.funnel.proofs.SettledChains.{two, near_stays, near_drops}
 use Rattle.funnel.proofs.Chains.drop_near.Goals as goal
 
-pub returns-in-default : goal.returns-in-default
-returns-in-default g c =
+pub returns-in_default : goal.returns-in_default
+returns-in_default g c =
     record {
-      turns = λ places e n f le h. absurd (two g.P.PointKind.at e c.args.side (g.P.PointKind.at c.args.from) _ _ _ _ n f h (omega (arith, c.requires)) c.in-default.ensures);
+      turns = λ places e n f le h. absurd (two g.P.PointKind.at e c.args.side (g.P.PointKind.at c.args.from) _ _ _ _ n f h (omega (arith, c.requires)) c.in_default.ensures);
       fewer = λ yes. search rules;
     }
 

@@ -6,10 +6,10 @@ use Rattle.funnel.proofs.FromTheRight.{taken}
 use Rattle.funnel.proofs.SettledChains.{two, apex_stays, apex_moves}
 use Rattle.funnel.proofs.Chains.move_apex.Goals as goal
 
-pub returns-in-default : goal.returns-in-default
-returns-in-default g c =
+pub returns-in_default : goal.returns-in_default
+returns-in_default g c =
     record {
-      turns = λ e n f le h. absurd (two g.P.PointKind.at e c.args.side (g.P.PointKind.at c.args.from) _ _ _ _ n f h (omega (arith, c.requires.1)) c.in-default.ensures);
+      turns = λ e n f le h. absurd (two g.P.PointKind.at e c.args.side (g.P.PointKind.at c.args.from) _ _ _ _ n f h (omega (arith, c.requires.1)) c.in_default.ensures);
       fewer = λ yes. search rules;
       size = refl;
     }
@@ -33,8 +33,8 @@ returns g c =
     record {
       turns = λ e n f le h. apex_moves at e c.args.side (at c.args.from) _ _ _ _ n f h
           c.in-Some.apex c.in-Some.next _ first _ _ _ _ (record { vertex = c.in-Some.next.vertex; side = c.other-across.result; point = c.in-Some.next.point })
-          (taken _ _ _ c.in-Some.apex _ c.pass-apex.result c.pass-apex.ensures.row first)
-          (ap (λ l. contents l _) c.pass-apex.ensures.bends ∙ c.in-Ok.ensures.effect) c.pass-apex.ensures.near c.pass-apex.ensures.far refl c.other-across.ensures refl c.requires.0 test;
-      fewer = λ yes. omega (arith, c.pass-apex.ensures.near, c.pass-apex.ensures.far);
+          (taken _ _ _ c.in-Some.apex _ c.pass_apex.result c.pass_apex.ensures.row first)
+          (ap (λ l. contents l _) c.pass_apex.ensures.bends ∙ c.in-Ok.ensures.effect) c.pass_apex.ensures.near c.pass_apex.ensures.far refl c.other-across.ensures refl c.requires.0 test;
+      fewer = λ yes. omega (arith, c.pass_apex.ensures.near, c.pass_apex.ensures.far);
       size = c.in-Ok.ensures.size;
     }

@@ -8,8 +8,8 @@ loop-k-init g c = λ fits. none_written _ _
 pub loop-k-preserved : goal.loop-k-preserved
 loop-k-preserved g c = λ fits. one_written _ _ _ _ (c.loop-k.invariant fits) _ (sym c.in-Some.is ∙ c.bend.ensures fits) c.loop-k-test.true
 
-pub returns-in-default : goal.returns-in-default
-returns-in-default g c = λ fits room. none_left _ _ _ _ (c.loop-k.invariant fits) (sym c.in-default.is ∙ c.bend.ensures fits)
+pub returns-in_default : goal.returns-in_default
+returns-in_default g c = λ fits room. none_left _ _ _ _ (c.loop-k.invariant fits) (sym c.in_default.is ∙ c.bend.ensures fits)
 
 pub returns : goal.returns
 returns g c = λ fits room.

@@ -6,4 +6,4 @@ use Rattle.funnel.proofs.ends.pop.Goals as goal
 pub returns-in-Right : goal.returns-in-Right
 returns-in-Right g c =
     let right : c.args.side ≡ Right = search rules in
-    popped _ right _ _ _ c.pop-back.result c.pop-back.ensures
+    popped _ right _ _ _ c.pop_back.result c.pop_back.ensures

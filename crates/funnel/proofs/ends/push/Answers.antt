@@ -6,5 +6,5 @@ use Rattle.funnel.proofs.ends.push.Goals as goal
 pub returns-in-Right : goal.returns-in-Right
 returns-in-Right g c =
     let right : c.args.side ≡ Right = search rules in
-    let done = c.push-back.ensures in
-    record { verdict = done.verdict; effect = pushed _ right _ _ _ _ c.push-back.result done.effect; size = done.size }
+    let done = c.push_back.ensures in
+    record { verdict = done.verdict; effect = pushed _ right _ _ _ _ c.push_back.result done.effect; size = done.size }

@@ -15,7 +15,7 @@ loop-k-preserved g c =
     let w = c.args.crossings.now in
     let k = c.loop-k.k in
     one_read _ _ _ _ _ _ (drop k w) _ (get_or w (k - 1) none) _ _ _ _ _ _ _ _ (one_before w k none c.loop-k-test.true c.loop-k.auto.k)
-    c.step-back-present.ensures.portal c.step-back-present.ensures.widens c.step-back-present.ensures.slots c.step-back-present.ensures.places c.loop-k.invariant
+    c.step_back-present.ensures.portal c.step_back-present.ensures.widens c.step_back-present.ensures.slots c.step_back-present.ensures.places c.loop-k.invariant
 
 pub returns : goal.returns
 returns g c =

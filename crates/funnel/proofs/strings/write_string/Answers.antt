@@ -7,12 +7,12 @@ use Rattle.funnel.proofs.strings.write_string.Goals as goal
 abbrev none : Crossing
 none = record { left = record { 0 = 0 }; entered = record { 0 = 0 } }
 
-pub returns-in-default : goal.returns-in-default
-returns-in-default g c = λ room fits outs.
+pub returns-in_default : goal.returns-in_default
+returns-in_default g c = λ room fits outs.
     let empty : length c.args.crossings.now < 1 = search rules in
     found_none _ _ _ _ _ empty
 
 pub returns : goal.returns
 returns g c = λ room fits outs.
     let some : 1 ≤ length c.args.crossings.now = search rules in
-    found_some _ _ _ _ _ _ _ c.portal-of-portal.result _ _ _ _ _ _ _ _ _ _ _ _ (but_last c.args.crossings.now none some) c.portal-of-portal.ensures c.open-chains.ensures.opens c.open-chains.ensures.size c.read-back.ensures.reads c.read-back.ensures.places c.meet-start.ensures c.write.ensures room fits outs
+    found_some _ _ _ _ _ _ _ c.portal_of-portal.result _ _ _ _ _ _ _ _ _ _ _ _ (but_last c.args.crossings.now none some) c.portal_of-portal.ensures c.open-chains.ensures.opens c.open-chains.ensures.size c.read_back.ensures.reads c.read_back.ensures.places c.meet_start.ensures c.write.ensures room fits outs

@@ -46,7 +46,7 @@ loop-d-preserved g c =
 pub returns : goal.returns
 returns g c =
     let l = lists c.args.triangles (map g.P.PointKind.written c.args.rows.now) c.args.corners.now c.args.across.now in
-    let stop = sym c.in-default.ensures in
+    let stop = sym c.in_default.ensures in
     let all = ended (listed l) c.requires.walkable.twins c.args.first (3 * c.args.triangles) c.mark.new.opened c.loop-d.opened c.loop-d.h c.loop-d.least c.loop-d.invariant stop in
     whole (listed l) c.requires.walkable.twins c.args.first (3 * c.args.triangles) c.args.opened.now c.loop-d.opened c.loop-d.least (omega (arith, c.requires.starts.has, c.requires.room))
     (subst (λ m. Fanned (listed l) c.args.first (3 * c.args.triangles) m c.loop-d.opened c.loop-d.least) c.mark.ensures all)

@@ -12,4 +12,4 @@ returns-in-Err g c =
 pub loop-i-preserved : goal.loop-i-preserved
 loop-i-preserved g c =
     below_more _ _ c.loop-i.invariant
-    (ap point_refusal (read_row g.P.PointKind.written c.args.rows.now c.loop-i.i c.index-rows-i.result c.loop-i-test.true c.index-rows-i.is) ∙ c.in-default.ensures.0)
+    (ap point_refusal (read_row g.P.PointKind.written c.args.rows.now c.loop-i.i c.index-rows-i.result c.loop-i-test.true c.index-rows-i.is) ∙ c.in_default.ensures.0)

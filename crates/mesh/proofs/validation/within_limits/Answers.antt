@@ -3,11 +3,11 @@ use lib.ListN.{length-map}
 use Rattle.std.proofs.lemmas.Bool.Decides.{nat_tests, Decides-eqb}
 use Rattle.mesh.proofs.validation.within_limits.Goals as goal
 
-pub returns-then-rows-lt-FEWEST-VERTICES : goal.returns-then-rows-lt-FEWEST-VERTICES
-returns-then-rows-lt-FEWEST-VERTICES g c =
+pub returns-then-rows-lt-FEWEST_VERTICES : goal.returns-then-rows-lt-FEWEST_VERTICES
+returns-then-rows-lt-FEWEST_VERTICES g c =
     let all = length-map c.args.rows.now g.P.PointKind.written in (
       (λ e. let z : ◌≡◌ {A = ℕ} 0 1 = cc in absurd (omega arith)),
-      (λ l. elim c.then-rows-lt-FEWEST-VERTICES.either [ inl few ↦ absurd (omega arith) | inr many ↦ absurd (omega arith) ]),
+      (λ l. elim c.then-rows-lt-FEWEST_VERTICES.either [ inl few ↦ absurd (omega arith) | inr many ↦ absurd (omega arith) ]),
     )
 
 pub returns : goal.returns

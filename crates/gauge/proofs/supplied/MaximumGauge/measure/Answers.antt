@@ -8,4 +8,4 @@ pub returns : goal.returns
 returns c =
     let x = c.widened.ensures ∙ c.magnitude.ensures in
     let y = c.widened-2.ensures ∙ c.magnitude-2.ensures in
-    c.larger-of.ensures ∙ (λ i. larger (x i) (y i)) ∙ maximum_is (step_value c.args.step)
+    c.larger_of.ensures ∙ (λ i. larger (x i) (y i)) ∙ maximum_is (step_value c.args.step)

@@ -2,14 +2,14 @@ use Rattle.std.proofs.Common.{refl}
 use Rattle.surfaces.proofs.ListedLawful.{accepted_vetted, nothing_vetted, refused_not}
 use Rattle.meshes.proofs.integers.IntegerMesh.new.Goals as goal
 
-pub invariant-of-result : goal.invariant-of-result
-invariant-of-result c = (∣ nothing_vetted ∣₁, tt)
+pub invariant_of-result : goal.invariant_of-result
+invariant_of-result c = (∣ nothing_vetted ∣₁, tt)
 
 pub returns-in-Err : goal.returns-in-Err
 returns-in-Err c = record { accepted = λ a. absurd (refused_not _ _ c.in-Err.ensures a); refused = λ _. refl }
 
-pub invariant-of-result-2 : goal.invariant-of-result-2
-invariant-of-result-2 c = (∣ accepted_vetted _ c.in-Ok.ensures ∣₁, tt)
+pub invariant_of-result-2 : goal.invariant_of-result-2
+invariant_of-result-2 c = (∣ accepted_vetted _ c.in-Ok.ensures ∣₁, tt)
 
 pub returns : goal.returns
 returns c = record { accepted = λ _. refl; refused = λ out. absurd (out c.in-Ok.ensures) }

@@ -4,8 +4,8 @@ use Rattle.geometry.specs.Points.{integer_row}
 use Rattle.surfaces.proofs.ListedLawful.{few_rows}
 use Rattle.meshes.proofs.integers.IntegerMeshMesh.vertices.Goals as goal
 
-pub overflow-cast-result : goal.overflow-cast-result
-overflow-cast-result c = let m = c.args.self.now in omega (arith, few_rows integer_row m.rows.now m.triangles m.corners.now m.across.now m.vetted)
+pub overflow_cast-result : goal.overflow_cast-result
+overflow_cast-result c = let m = c.args.self.now in omega (arith, few_rows integer_row m.rows.now m.triangles m.corners.now m.across.now m.vetted)
 
 pub returns : goal.returns
 returns c = let m = c.args.self.now in sym (length-map m.rows.now integer_row)

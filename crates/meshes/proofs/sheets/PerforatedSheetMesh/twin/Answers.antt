@@ -15,10 +15,10 @@ returns-in-3 c =
     let l : c.args.h.0 / 6 < cells s.columns s.rows = omega (arith, c.cells.ensures.count) in
     sym (twin_up s.columns s.rows s.pitch c.args.h l c.in-3.is)
 
-pub returns-in-default-2 : goal.returns-in-default-2
-returns-in-default-2 c =
+pub returns-in_default-2 : goal.returns-in_default-2
+returns-in_default-2 c =
     let s = c.args.self.now in
     let q = c.cell-column.result in
     let l : c.args.h.0 / 6 < cells s.columns s.rows = omega (arith, c.cells.ensures.count) in
     let k : 5 ≤ c.args.h.0 % 6 = omega arith in
-    c.half-edge-in-default-2.ensures ∙ sym (twin_leftward s.columns s.rows s.pitch c.args.h (cell q.column q.row) l k c.cell-column.ensures.is c.if-column-eq0.false)
+    c.half_edge-in_default-2.ensures ∙ sym (twin_leftward s.columns s.rows s.pitch c.args.h (cell q.column q.row) l k c.cell-column.ensures.is c.if-column-eq0.false)
