@@ -7,4 +7,4 @@ pub returns : goal.returns
 returns c = same_number (omega (arith, ints)) (omega (arith, ints))
 
 pub invariant_of-result : goal.invariant_of-result
-invariant_of-result c = ((omega (arith, ints), omega (arith, ints)), ((omega (arith, ints), omega (arith, ints)), tt))
+invariant_of-result c = record { p_within = (omega (arith, ints), omega (arith, ints)); q_within = (omega (arith, ints), omega (arith, ints)) }

@@ -13,7 +13,7 @@ overflow_add-result-3 c = pair_fits _ _ c.product_of-pq.result.within c.product_
 
 pub invariant_of-result : goal.invariant_of-result
 invariant_of-result c =
-    (within_area _ _ c.product_of-pp.result.within c.product_of-qq.result.within, (within_pair _ _ c.product_of-pq.result.within c.product_of-qp.result.within, tt))
+    record { p_within = within_area _ _ c.product_of-pp.result.within c.product_of-qq.result.within; q_within = within_pair _ _ c.product_of-pq.result.within c.product_of-qp.result.within }
 
 pub returns : goal.returns
 returns c =
