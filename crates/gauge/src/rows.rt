@@ -9,7 +9,7 @@ use geometry::kinds::PointKind;
 
 // How long the way is from a first point over the others.
 pub fn span_of<P: PointKind, G: Gauge>(gauge: &G, start: P, row: &[P]) -> Length
-    ensures { length_value result ≡ span (forms gauge.now) (at start) (map at row.now) }
+    ensures { length_value result ≡ span (G.forms gauge.now) (P.at start) (map P.at row.now) }
 {
     let mut total = Length { p: 0, q: 0 };
     let mut last = start;
@@ -28,7 +28,7 @@ pub fn span_of<P: PointKind, G: Gauge>(gauge: &G, start: P, row: &[P]) -> Length
 
 // How long a row of points is; 0 where there are fewer than two.
 pub fn length_of_row<P: PointKind, G: Gauge>(gauge: &G, row: &[P]) -> Length
-    ensures { length_value result ≡ length_of (forms gauge.now) (map at row.now) }
+    ensures { length_value result ≡ length_of (G.forms gauge.now) (map P.at row.now) }
 {
     let [first, rest @ ..] = row else {
         return Length { p: 0, q: 0 };

@@ -21,9 +21,9 @@ fn covers<P: PointKind>(
     first: HalfEdgeId,
     h: HalfEdgeId,
 ) -> bool
-    requires readable { Readable (lists triangles (map written rows.now) corners.now []) }
+    requires readable { Readable (lists triangles (map P.written rows.now) corners.now []) }
     requires there { (first.0 < 3 * triangles) × (h.0 < 3 * triangles) }
-    ensures { Decides result (Covers (listed (lists triangles (map written rows.now) corners.now [])) first h) }
+    ensures { Decides result (Covers (listed (lists triangles (map P.written rows.now) corners.now [])) first h) }
 {
     let o = spot_of::<P>(triangles, rows, corners, h);
     let p = spot_of::<P>(triangles, rows, corners, first.next());
@@ -44,11 +44,11 @@ fn lowered<P: PointKind>(
     h: HalfEdgeId,
     least: usize,
 ) -> usize
-    requires readable { Readable (lists triangles (map written rows.now) corners.now []) }
+    requires readable { Readable (lists triangles (map P.written rows.now) corners.now []) }
     requires there { (first.0 < 3 * triangles) × (h.0 < 3 * triangles) }
-    ensures which { (result ≡ least) ⊎ ((result ≡ h.0) × Covers (listed (lists triangles (map written rows.now) corners.now [])) first h) }
+    ensures which { (result ≡ least) ⊎ ((result ≡ h.0) × Covers (listed (lists triangles (map P.written rows.now) corners.now [])) first h) }
     ensures less { result ≤ least }
-    ensures here { Covers (listed (lists triangles (map written rows.now) corners.now [])) first h → result ≤ h.0 }
+    ensures here { Covers (listed (lists triangles (map P.written rows.now) corners.now [])) first h → result ≤ h.0 }
 {
     if !covers::<P>(triangles, rows, corners, first, h) {
         return least;
@@ -81,12 +81,12 @@ fn walk_fan<P: PointKind>(
     first: HalfEdgeId,
     opened: &mut [bool],
 ) -> usize
-    requires readable { Readable (lists triangles (map written rows.now) corners.now []) }
-    requires walkable { Walkable (lists triangles (map written rows.now) corners.now across.now) }
+    requires readable { Readable (lists triangles (map P.written rows.now) corners.now []) }
+    requires walkable { Walkable (lists triangles (map P.written rows.now) corners.now across.now) }
     requires room { 3 * triangles ≤ length opened.old }
-    requires starts { Starts (listed (lists triangles (map written rows.now) corners.now across.now)) first }
-    requires fresh { Fresh (listed (lists triangles (map written rows.now) corners.now across.now)) opened.old first }
-    ensures { Fanned (listed (lists triangles (map written rows.now) corners.now across.now)) first (3 * triangles) opened.old opened.new result }
+    requires starts { Starts (listed (lists triangles (map P.written rows.now) corners.now across.now)) first }
+    requires fresh { Fresh (listed (lists triangles (map P.written rows.now) corners.now across.now)) opened.old first }
+    ensures { Fanned (listed (lists triangles (map P.written rows.now) corners.now across.now)) first (3 * triangles) opened.old opened.new result }
 {
     let mut least = 3 * triangles;
     let mut h = first;
@@ -109,12 +109,12 @@ fn walk_from<P: PointKind>(
     least: usize,
     opened: &mut [bool],
 ) -> usize
-    requires readable { Readable (lists triangles (map written rows.now) corners.now []) }
-    requires walkable { Walkable (lists triangles (map written rows.now) corners.now across.now) }
+    requires readable { Readable (lists triangles (map P.written rows.now) corners.now []) }
+    requires walkable { Walkable (lists triangles (map P.written rows.now) corners.now across.now) }
     requires room { 3 * triangles ≤ length opened.old }
     requires there { h.0 < 3 * triangles }
-    requires walked { WalkedTo (listed (lists triangles (map written rows.now) corners.now across.now)) h.0 (3 * triangles) opened.old least }
-    ensures { WalkedTo (listed (lists triangles (map written rows.now) corners.now across.now)) (h.0 + 1) (3 * triangles) opened.new result }
+    requires walked { WalkedTo (listed (lists triangles (map P.written rows.now) corners.now across.now)) h.0 (3 * triangles) opened.old least }
+    ensures { WalkedTo (listed (lists triangles (map P.written rows.now) corners.now across.now)) (h.0 + 1) (3 * triangles) opened.new result }
 {
     if let Some(_) = twin_of(across, h) {
         return least;
@@ -131,12 +131,12 @@ pub(crate) fn walk_fans<P: PointKind>(
     across: &[HalfEdgeId],
     opened: &mut [bool],
 ) -> Option<usize>
-    requires readable { Readable (lists triangles (map written rows.now) corners.now []) }
-    requires walkable { Walkable (lists triangles (map written rows.now) corners.now across.now) }
+    requires readable { Readable (lists triangles (map P.written rows.now) corners.now []) }
+    requires walkable { Walkable (lists triangles (map P.written rows.now) corners.now across.now) }
     requires room { 3 * triangles ≤ length opened.old }
     requires blank { (x : Corner) → Marked opened.old x → ⊥ }
-    ensures walked { Walked (listed (lists triangles (map written rows.now) corners.now across.now)) opened.new }
-    ensures short { FirstBad (λ k. FallsShort (listed (lists triangles (map written rows.now) corners.now across.now)) (half_edge k)) (3 * triangles) result }
+    ensures walked { Walked (listed (lists triangles (map P.written rows.now) corners.now across.now)) opened.new }
+    ensures short { FirstBad (λ k. FallsShort (listed (lists triangles (map P.written rows.now) corners.now across.now)) (half_edge k)) (3 * triangles) result }
 {
     let mut least = 3 * triangles;
     for i in 0..3 * triangles {

@@ -15,7 +15,7 @@ use geometry::kinds::PointKind;
 
 // The first vertex that has a coordinate out of range.
 pub(crate) fn first_out_of_range<P: PointKind>(rows: &[P::Row]) -> Option<usize>
-    ensures { FirstBad (λ k. point_refusal (slice_index_or (map written rows.now) k origin) ≡ None) (length rows.now) result }
+    ensures { FirstBad (λ k. point_refusal (slice_index_or (map P.written rows.now) k origin) ≡ None) (length rows.now) result }
 {
     for i in 0..rows.len() {
         if let Err(_) = P::make(rows[i]) {
@@ -44,9 +44,9 @@ pub(crate) fn spot_of<P: PointKind>(
     corners: &[VertexId],
     h: HalfEdgeId,
 ) -> P
-    requires readable { Readable (lists triangles (map written rows.now) corners.now []) }
+    requires readable { Readable (lists triangles (map P.written rows.now) corners.now []) }
     requires there { h.0 < 3 * triangles }
-    ensures { at result ≡ spot (listed (lists triangles (map written rows.now) corners.now [])) h }
+    ensures { P.at result ≡ spot (listed (lists triangles (map P.written rows.now) corners.now [])) h }
 {
     let v = corner_of(corners, h);
     match P::make(rows[v.0 as usize]) {
@@ -61,9 +61,9 @@ fn turn_of<P: PointKind>(
     corners: &[VertexId],
     t: TriangleId,
 ) -> Turn
-    requires readable { Readable (lists triangles (map written rows.now) corners.now []) }
+    requires readable { Readable (lists triangles (map P.written rows.now) corners.now []) }
     requires there { t.0 < triangles }
-    ensures { result ≡ triangle_turn (listed (lists triangles (map written rows.now) corners.now [])) t }
+    ensures { result ≡ triangle_turn (listed (lists triangles (map P.written rows.now) corners.now [])) t }
 {
     let a = spot_of::<P>(triangles, rows, corners, HalfEdgeId::of(t, 0));
     let b = spot_of::<P>(triangles, rows, corners, HalfEdgeId::of(t, 1));
@@ -77,8 +77,8 @@ pub(crate) fn first_wrong_turn<P: PointKind>(
     rows: &[P::Row],
     corners: &[VertexId],
 ) -> Option<usize>
-    requires { Readable (lists triangles (map written rows.now) corners.now []) }
-    ensures { FirstBad (λ k. TurnsLeft (listed (lists triangles (map written rows.now) corners.now [])) (triangle k)) triangles result }
+    requires { Readable (lists triangles (map P.written rows.now) corners.now []) }
+    ensures { FirstBad (λ k. TurnsLeft (listed (lists triangles (map P.written rows.now) corners.now [])) (triangle k)) triangles result }
 {
     for i in 0..triangles {
         if turn_of::<P>(triangles, rows, corners, TriangleId(i as u16)) != Turn::Left {

@@ -27,7 +27,7 @@ fn within_limits<P: PointKind>(
     corners: &[VertexId],
     across: &[HalfEdgeId],
 ) -> bool
-    ensures { Decides result (Limits (lists triangles (map written rows.now) corners.now across.now)) }
+    ensures { Decides result (Limits (lists triangles (map P.written rows.now) corners.now across.now)) }
 {
     if triangles == 0 || triangles > MOST_TRIANGLES {
         return false;
@@ -57,7 +57,7 @@ pub fn validate<P: PointKind>(
     corners: &[VertexId],
     across: &[HalfEdgeId],
 ) -> Result<(), Refusal>
-    ensures { Verdict (lists triangles (map written rows.now) corners.now across.now) result }
+    ensures { Verdict (lists triangles (map P.written rows.now) corners.now across.now) result }
 {
     if !within_limits::<P>(triangles, rows, corners, across) {
         return Err(Refusal::MeshLimits);

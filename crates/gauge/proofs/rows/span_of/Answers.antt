@@ -8,7 +8,7 @@ loop-left-preserved g c =
     let some : 1 ≤ length c.loop-left.left.now = search rules in
     let w = c.loop-left.invariant in
     walked_on g.P.PointKind.at (g.G.Gauge.forms c.args.gauge.now) c.args.start c.args.row.now c.loop-left.total c.loop-left.last c.loop-left.left.now c.first-item.result
-    c.measure-piece.result c.step.result _ _ w some c.first-item.is c.step.ensures c.measure-piece.ensures (omega (arith, ints, w.p-bound.0, w.p-bound.1)) (omega (arith, ints, w.q-bound.0, w.q-bound.1))
+    c.measure-piece.result c.step.result _ _ w some c.first-item.is c.step.ensures c.measure-piece.ensures (omega (arith, ints, w.p_bound.0, w.p_bound.1)) (omega (arith, ints, w.q_bound.0, w.q_bound.1))
 
 pub returns : goal.returns
 returns g c =

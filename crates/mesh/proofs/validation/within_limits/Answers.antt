@@ -21,5 +21,5 @@ returns g c =
         all_corners = omega arith;
         all_sides = (Decides-eqb _ _).0 e;
       }),
-      (λ l. (Decides-eqb _ _).1 l.all-sides),
+      (λ l. (Decides-eqb _ _).1 l.all_sides),
     )
