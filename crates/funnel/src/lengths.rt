@@ -32,7 +32,7 @@ pub fn string_length<M: Mesh, G: Gauge>(
     bends: &[Bend],
     end: M::Point,
 ) -> Length
-    ensures { length_value result ≡ span (forms gauge.now) (M.Point.PointKind.at start) (map (bend_point (surface mesh.now)) bends.now ++ M.Point.PointKind.at end ∷ []) }
+    ensures { length_value result ≡ span (G.forms gauge.now) (M.Point.PointKind.at start) (map (bend_point (M.surface mesh.now)) bends.now ++ M.Point.PointKind.at end ∷ []) }
 {
     let mut total = Length { p: 0, q: 0 };
     let mut last = start;

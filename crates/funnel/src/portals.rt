@@ -12,7 +12,7 @@ use words::sorts::Crossing;
 // A vertex on a side, with the point that the mesh has for it.
 fn corner_at<M: Mesh>(mesh: &M, side: Side, vertex: VertexId) -> Corner<M::Point>
     ensures vertex { result.vertex ≡ vertex }
-    ensures point { M.Point.PointKind.at result.point ≡ (surface mesh.now).point vertex }
+    ensures point { M.Point.PointKind.at result.point ≡ (M.surface mesh.now).point vertex }
 {
     Corner {
         vertex,
@@ -23,7 +23,7 @@ fn corner_at<M: Mesh>(mesh: &M, side: Side, vertex: VertexId) -> Corner<M::Point
 
 // The portal that a crossing passes: its left end is the corner after the half-edge left, its right end the corner of that half-edge.
 pub fn portal_of<M: Mesh>(mesh: &M, crossing: Crossing) -> Portal<M::Point>
-    ensures { portal_meant M.Point.PointKind.at result ≡ portal_of (surface mesh.now) crossing }
+    ensures { portal_meant M.Point.PointKind.at result ≡ portal_of (M.surface mesh.now) crossing }
 {
     let [first, second, third] = mesh.corners(crossing.left.triangle());
     let (right, left) = match crossing.left.index() {

@@ -21,7 +21,7 @@ fn step_back<M: Mesh>(
     slots: &mut [Corner<M::Point>],
     places: &mut [Corner<M::Point>],
 ) -> Portal<M::Point>
-    ensures portal { portal_meant M.Point.PointKind.at result ≡ portal_of (surface mesh.now) crossing }
+    ensures portal { portal_meant M.Point.PointKind.at result ≡ portal_of (M.surface mesh.now) crossing }
     ensures widens { Widens M.Point.PointKind.at result present chains.old slots.old places.old chains.new slots.new places.new }
     ensures slots { length slots.new ≡ length slots.old }
     ensures places { length places.new ≡ length places.old }
@@ -40,7 +40,7 @@ fn read_back<M: Mesh>(
     slots: &mut [Corner<M::Point>],
     places: &mut [Corner<M::Point>],
 )
-    ensures reads { Reads M.Point.PointKind.at (surface mesh.now) crossings.now present chains.old slots.old places.old chains.new slots.new places.new }
+    ensures reads { Reads M.Point.PointKind.at (M.surface mesh.now) crossings.now present chains.old slots.old places.old chains.new slots.new places.new }
     ensures slots { length slots.new ≡ length slots.old }
     ensures places { length places.new ≡ length places.old }
 {
@@ -60,7 +60,7 @@ fn write_string<M: Mesh>(
     out: &mut [Bend],
 ) -> usize
     ensures { length crossings.now + 1 < length slots.old → length crossings.now + 1 ≤ length places.old → length crossings.now ≤ length out.old
-        → Found (surface mesh.now) (M.Point.PointKind.at start) crossings.now (M.Point.PointKind.at end) result out.old out.new }
+        → Found (M.surface mesh.now) (M.Point.PointKind.at start) crossings.now (M.Point.PointKind.at end) result out.old out.new }
 {
     let [rest @ .., last] = crossings else {
         return 0;
@@ -105,8 +105,8 @@ fn string_within<M: Mesh>(
     out: &mut [Bend],
 ) -> usize
     requires { None ≡ memory_refusal (length crossings.now) (length out.old) (length working.old) }
-    ensures found { Found (surface mesh.now) (M.Point.PointKind.at start) crossings.now (M.Point.PointKind.at end) result out.old out.new }
-    ensures taut { Taut (surface mesh.now) (M.Point.PointKind.at start) crossings.now (M.Point.PointKind.at end) result out.new }
+    ensures found { Found (M.surface mesh.now) (M.Point.PointKind.at start) crossings.now (M.Point.PointKind.at end) result out.old out.new }
+    ensures taut { Taut (M.surface mesh.now) (M.Point.PointKind.at start) crossings.now (M.Point.PointKind.at end) result out.new }
 {
     let (slots, places) = working.split_at_mut(crossings.len() + 2);
     write_string(mesh, start, crossings, end, slots, places, out)
@@ -124,10 +124,10 @@ pub fn taut_string<M: Mesh>(
 ) -> Result<usize, Refusal>
     ensures verdict { refusal result ≡ memory_refusal (length crossings.now) (length out.old) (length working.old) }
     ensures found { MatchResult result
-        (λ m. Found (surface mesh.now) (M.Point.PointKind.at start) crossings.now (M.Point.PointKind.at end) m out.old out.new)
+        (λ m. Found (M.surface mesh.now) (M.Point.PointKind.at start) crossings.now (M.Point.PointKind.at end) m out.old out.new)
         (λ _. (out.new ≡ out.old) × (working.new ≡ working.old)) }
     ensures taut { MatchResult result
-        (λ m. Taut (surface mesh.now) (M.Point.PointKind.at start) crossings.now (M.Point.PointKind.at end) m out.new)
+        (λ m. Taut (M.surface mesh.now) (M.Point.PointKind.at start) crossings.now (M.Point.PointKind.at end) m out.new)
         (λ _. Unit {0}) }
 {
     check_memory(crossings.len(), out.len(), working.len())?;

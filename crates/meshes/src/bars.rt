@@ -35,7 +35,7 @@ impl<M: Mesh> Barred<M> {
 
     // Bars a portal, named by either of its sides.
     pub fn bar(&mut self, side: HalfEdgeId) -> Result<(), Refusal>
-        ensures verdict { refusal result ≡ bar_refusal (barred (take self.old.count self.old.codes) (surface self.old.below)) side self.old.count }
+        ensures verdict { refusal result ≡ bar_refusal (barred (take self.old.count self.old.codes) (M.surface self.old.below)) side self.old.count }
         ensures below { self.new.below ≡ self.old.below }
         ensures effect { MatchResult result (λ _. take self.new.count self.new.codes ≡ take self.old.count self.old.codes ++ side ∷ []) (λ _. self.new ≡ self.old) }
     {
