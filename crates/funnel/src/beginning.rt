@@ -11,7 +11,7 @@ use taut::Side;
 impl<P: PointKind> Chains<P> {
     // The end point alone. It is no bend, so its vertex and its side say nothing.
     fn at_end(slots: &mut [Corner<P>], end: P) -> Chains<P>
-        ensures begins { Begins at end result slots.new }
+        ensures begins { Begins P.at end result slots.new }
         ensures size { length slots.new ≡ length slots.old }
     {
         let mut row = Deque::new();
@@ -31,7 +31,7 @@ impl<P: PointKind> Chains<P> {
 
     // The funnel between the ends of the last portal and the end point.
     pub(crate) fn open(slots: &mut [Corner<P>], end: P, portal: Portal<P>) -> Chains<P>
-        ensures opens { Opens at end portal result slots.new }
+        ensures opens { Opens P.at end portal result slots.new }
         ensures size { length slots.new ≡ length slots.old }
     {
         let mut chains = Chains::at_end(slots, end);

@@ -10,7 +10,7 @@ use taut::Side;
 impl<P: PointKind> Chains<P> {
     // Puts a corner at the near end.
     pub(crate) fn push_near(&mut self, slots: &mut [Corner<P>], side: Side, corner: Corner<P>)
-        ensures pushes { (places : List (Corner P)) → Pushes at side corner self.old slots.old places self.new slots.new }
+        ensures pushes { (places : List (Corner P)) → Pushes P.at side corner self.old slots.old places self.new slots.new }
         ensures size { length slots.new ≡ length slots.old }
     {
         let Ok(()) = push(&mut self.row, slots, side, corner) else {
@@ -21,7 +21,7 @@ impl<P: PointKind> Chains<P> {
 
     // Turns to the other side.
     pub(crate) fn flip(&mut self)
-        ensures { (slots places : List (Corner P)) → Flips at self.old slots places self.new }
+        ensures { (slots places : List (Corner P)) → Flips P.at self.old slots places self.new }
     {
         let near = self.near;
         self.near = self.far;
@@ -36,7 +36,7 @@ impl<P: PointKind> Chains<P> {
         side: Side,
         corner: Corner<P>,
     )
-        ensures nears { Nears at side corner self.old slots.old places.old self.new slots.new places.new }
+        ensures nears { Nears P.at side corner self.old slots.old places.old self.new slots.new places.new }
         ensures slots { length slots.new ≡ length slots.old }
         ensures places { length places.new ≡ length places.old }
     {
@@ -52,7 +52,7 @@ impl<P: PointKind> Chains<P> {
         side: Side,
         corner: Corner<P>,
     )
-        ensures gains { Gains at side corner self.old slots.old places.old self.new slots.new places.new }
+        ensures gains { Gains P.at side corner self.old slots.old places.old self.new slots.new places.new }
         ensures slots { length slots.new ≡ length slots.old }
         ensures places { length places.new ≡ length places.old }
     {
@@ -74,7 +74,7 @@ impl<P: PointKind> Chains<P> {
         before: Portal<P>,
         present: Portal<P>,
     )
-        ensures widens { Widens at before present self.old slots.old places.old self.new slots.new places.new }
+        ensures widens { Widens P.at before present self.old slots.old places.old self.new slots.new places.new }
         ensures slots { length slots.new ≡ length slots.old }
         ensures places { length places.new ≡ length places.old }
     {

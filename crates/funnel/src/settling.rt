@@ -16,7 +16,7 @@ use taut::Side;
 
 // Whether the way from a over b turns strictly to a side towards c.
 fn bears<P: PointKind>(side: Side, a: P, b: P, c: P) -> bool
-    ensures { result ≡ bears quadratics sign side (at a) (at b) (at c) }
+    ensures { result ≡ bears quadratics sign side (P.at a) (P.at b) (P.at c) }
 {
     match (side, P::turn(a, b, c)) {
         (Side::Left, Turn::Left) => true,
@@ -27,14 +27,14 @@ fn bears<P: PointKind>(side: Side, a: P, b: P, c: P) -> bool
 
 // Whether a corner of the near chain stays before a new end. Where the way over it only touches it, it goes.
 fn stays<P: PointKind>(side: Side, from: P, corner: P, next: P) -> bool
-    ensures { result ≡ bears quadratics sign side (at from) (at corner) (at next) }
+    ensures { result ≡ bears quadratics sign side (P.at from) (P.at corner) (P.at next) }
 {
     bears(side, from, corner, next)
 }
 
 // Whether a corner of the far chain stands in the way from a new end to the apex. Where the way only touches it, it does not.
 fn blocks<P: PointKind>(side: Side, from: P, corner: P, apex: P) -> bool
-    ensures { result ≡ bears quadratics sign side (at from) (at corner) (at apex) }
+    ensures { result ≡ bears quadratics sign side (P.at from) (P.at corner) (P.at apex) }
 {
     bears(side, from, corner, apex)
 }
@@ -43,7 +43,7 @@ impl<P: PointKind> Chains<P> {
     // Drops the corner at the near end, unless it turns strictly to the side on the way from a point.
     fn drop_near(&mut self, slots: &[Corner<P>], side: Side, from: P) -> bool
         requires { 0 < self.old.near }
-        ensures turns { (places : List (Corner P)) → Turns at side (at from) self.old slots.now places self.new places result }
+        ensures turns { (places : List (Corner P)) → Turns P.at side (P.at from) self.old slots.now places self.new places result }
         ensures fewer { result ≡ true → self.new.near + self.new.far < self.old.near + self.old.far }
     {
         let Some((corner, next)) = first_two(&self.row, slots, side) else {
@@ -81,7 +81,7 @@ impl<P: PointKind> Chains<P> {
         from: P,
     ) -> bool
         requires { (self.old.near ≡ 0) × (0 < self.old.far) }
-        ensures turns { Turns at side (at from) self.old slots.now places.old self.new places.new result }
+        ensures turns { Turns P.at side (P.at from) self.old slots.now places.old self.new places.new result }
         ensures fewer { result ≡ true → self.new.near + self.new.far < self.old.near + self.old.far }
         ensures size { length places.new ≡ length places.old }
     {
@@ -112,7 +112,7 @@ impl<P: PointKind> Chains<P> {
         side: Side,
         from: P,
     ) -> bool
-        ensures turns { Turns at side (at from) self.old slots.now places.old self.new places.new result }
+        ensures turns { Turns P.at side (P.at from) self.old slots.now places.old self.new places.new result }
         ensures fewer { result ≡ true → self.new.near + self.new.far < self.old.near + self.old.far }
         ensures size { length places.new ≡ length places.old }
     {
@@ -133,7 +133,7 @@ impl<P: PointKind> Chains<P> {
         side: Side,
         from: P,
     )
-        ensures settles { Settles at side (at from) self.old slots.now places.old self.new places.new }
+        ensures settles { Settles P.at side (P.at from) self.old slots.now places.old self.new places.new }
         ensures size { length places.new ≡ length places.old }
     {
         while self.drop_corner(slots, places, side, from) {}
@@ -141,7 +141,7 @@ impl<P: PointKind> Chains<P> {
 
     // The start is one more end on the left: what it leaves of the chains.
     pub(crate) fn meet_start(&mut self, slots: &[Corner<P>], places: &mut [Corner<P>], start: P)
-        ensures settles { Settles at Left (at start) self.old slots.now places.old self.new places.new }
+        ensures settles { Settles P.at Left (P.at start) self.old slots.now places.old self.new places.new }
     {
         self.settle(slots, places, Side::Left, start);
     }

@@ -2,6 +2,7 @@
 use crate::rows::{Kind, PointRow};
 use crate::stop::Stop;
 use crate::text::{coordinate, length, turn_word};
+use anyhow::anyhow;
 use base::refusals::Refusal;
 use gauge::rows::length_of_row;
 use gauge::supplied::{L1, Maximum, Octagon};
@@ -67,7 +68,7 @@ fn add<P: PointKind>(
             let x = coordinate(point.x());
             let y = coordinate(point.y());
             if points.push(point).is_err() {
-                return Err(Stop::Failed("there is no memory for one more point".into()));
+                return Err(Stop::Failed(anyhow!("there is no memory for one more point")));
             }
             println!(rt; "point {number}: ({x}, {y})")?;
         }

@@ -34,7 +34,7 @@ returns g c =
       turns = λ e n f le h. apex_moves at e c.args.side (at c.args.from) _ _ _ _ n f h
           c.in-Some.apex c.in-Some.next _ first _ _ _ _ (record { vertex = c.in-Some.next.vertex; side = c.other-across.result; point = c.in-Some.next.point })
           (taken _ _ _ c.in-Some.apex _ c.pass_apex.result c.pass_apex.ensures.row first)
-          (ap (λ l. contents l _) c.pass_apex.ensures.bends ∙ c.in-Ok.ensures.effect) c.pass_apex.ensures.near c.pass_apex.ensures.far refl c.other-across.ensures refl c.requires.0 test;
+          (ap (λ l. contents l c.push_front.new.slots) c.pass_apex.ensures.bends ∙ c.in-Ok.ensures.effect) c.pass_apex.ensures.near c.pass_apex.ensures.far refl c.other-across.ensures refl c.requires.0 test;
       fewer = λ yes. omega (arith, c.pass_apex.ensures.near, c.pass_apex.ensures.far);
       size = c.in-Ok.ensures.size;
     }

@@ -15,4 +15,4 @@ returns-in_default g c = λ room fits outs.
 pub returns : goal.returns
 returns g c = λ room fits outs.
     let some : 1 ≤ length c.args.crossings.now = search rules in
-    found_some _ _ _ _ _ _ _ c.portal_of-portal.result _ _ _ _ _ _ _ _ _ _ _ _ (but_last c.args.crossings.now none some) c.portal_of-portal.ensures c.open-chains.ensures.opens c.open-chains.ensures.size c.read_back.ensures.reads c.read_back.ensures.places c.meet_start.ensures c.write.ensures room fits outs
+    found_some _ _ _ _ _ _ _ c.portal_of-portal.result _ _ _ _ _ _ _ _ _ _ _ _ (but_last c.args.crossings.now none some) c.portal_of-portal.ensures c.open-chains.ensures.opens c.open-chains.ensures.size c.read_back.ensures.reads c.read_back.ensures.places c.meet_start.ensures.settles c.write.ensures room fits outs
