@@ -1,7 +1,7 @@
 -- Numbers p + q√2 over an ordered ring in which 2 has no root are an ordered commutative ring.
 -- By the norm p² − 2q²: a number is positive exactly if its norm and p are positive, or its norm is negative and q positive.
-use Rattle.std.proofs.Common.{◌≡◌, ℕ, zero, suc, ◌+◌ as ◌+ⁿ◌, ◌⊎◌, List, [], ◌∷◌, sym, refl, ap, ◌∙◌, subst, inl, inr}
-use Rattle.algebra.specs.Arithmetic.{Ops, RingLaws, OrderLaws, Arithmetic, OrderedRingLaws, Nn}
+use Rattle.std.proofs.Common.{◌≡◌, ℕ, zero, suc, ◌+◌ as ◌+ⁿ◌, ◌⊎◌, List, [], ◌∷◌, refl, ap, ◌∙◌, subst, inl, inr}
+use Rattle.algebra.specs.Arithmetic.{Ops, RingLaws, OrderLaws, Arithmetic, Nn}
 use Rattle.algebra.proofs.RingSolver.{CommRing, ring, sub_nil, Expr, var, Eqn, difference, none, ev, sound, ◌:+◌, ◌:-◌, ◌:*◌, :-◌, ◌:=◌, :0, :1}
 use Rattle.algebra.proofs.OrderedRing.{OrderedRing, base, signs, sign, sign', nn_pos, nn_split, pos_eq, clash, nn_nil}
 

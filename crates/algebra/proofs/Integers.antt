@@ -1,9 +1,9 @@
 -- The whole numbers are an ordered commutative ring.
-use Rattle.std.proofs.Common.{◌≡◌, ℕ, zero, suc, ◌+◌, ◌*◌, ◌⊎◌, ℤ, pos, negsuc, ◌+ℤ◌, ◌*ℤ◌, neg_ℤ, ◌<ℤ◌, sym, refl, ap, ◌∙◌, subst, inl, inr, arith}
+use Rattle.std.proofs.Common.{◌≡◌, zero, suc, ◌+◌, ◌*◌, ◌⊎◌, ℤ, pos, negsuc, ◌+ℤ◌, ◌*ℤ◌, neg_ℤ, ◌<ℤ◌, refl, ap, inl, inr, arith}
 use borrow.Author.Differences.{up, down, product_is, sum_is_lem, same_in}
 use lib.IntN.{+ℤ_assoc, +ℤ_comm, +ℤ_idr, +ℤ_invr, *ℤ_comm}
 use Rattle.std.proofs.lemmas.Int.{ints}
-use Rattle.algebra.specs.Arithmetic.{Ops, RingLaws, OrderLaws, Arithmetic, OrderedRingLaws}
+use Rattle.algebra.specs.Arithmetic.{RingLaws, Arithmetic}
 use Rattle.algebra.proofs.OrderedRing.{OrderedRing}
 
 up_mul : (a b : ℤ) → up (a *ℤ b) ≡ up a * up b + down a * down b

@@ -1,10 +1,10 @@
 -- How large sums and products of whole numbers are, and when they fit a machine integer.
-use Rattle.std.proofs.Common.{◌≡◌, ℕ, zero, suc, ◌+◌, ◌*◌, ◌^◌, ◌<◌, ◌≤◌, Bool, true, false, cond, ◌&&◌, ◌||◌, ◌⊎◌, ℤ, pos, negsuc, ◌+ℤ◌, ◌-ℤ◌, ◌*ℤ◌, neg_ℤ, nat_abs, ◌≤ℤ◌, sym, refl, ap, ◌∙◌, subst, inl, inr, mul-le-mul, arith, to_z-of_z, w32, w64, SFits, to_z, of_z}
+use Rattle.std.proofs.Common.{◌≡◌, ℕ, zero, suc, ◌+◌, ◌*◌, ◌≤◌, Bool, true, false, ◌&&◌, ◌⊎◌, ℤ, pos, negsuc, ◌+ℤ◌, ◌-ℤ◌, ◌*ℤ◌, neg_ℤ, nat_abs, ◌≤ℤ◌, sym, refl, ap, ◌∙◌, subst, inl, inr, mul-le-mul, arith, to_z-of_z, w32, w64, SFits, to_z, of_z}
 use Rattle.std.proofs.lemmas.Int.{ints}
-use lib.Signed.{lt_z, le_z}
+use lib.Signed.{lt_z}
 use mir.Syntax.{w128}
 use Rattle.algebra.specs.Bounds.{Within}
-use Rattle.algebra.specs.Number.{Number, number, above, square, twice_square, is_zero_part, is_zero, sign}
+use Rattle.algebra.specs.Number.{number, above, square, is_zero_part, is_zero}
 
 pub abs_from : (n : ℕ) (z : ℤ) → Within n z → nat_abs z ≤ n
 abs_from n (pos a) (l, h) = omega (arith, ints)

@@ -2,9 +2,9 @@
 -- Each is the lemma of every ordered ring, at these numbers.
 use Rattle.std.proofs.Common.{◌≡◌, sym, refl, ap, ◌∙◌}
 use Rattle.algebra.specs.Arithmetic.{Nn}
-use Rattle.algebra.specs.Number.{Number, zero, minus, sign, Signed, Positive, ◌⊕◌, ◌⊖◌, ◌⊛◌, quadratics}
+use Rattle.algebra.specs.Number.{Number, zero, minus, Positive, ◌⊕◌, ◌⊖◌, ◌⊛◌, quadratics}
 use Rattle.algebra.specs.Order.{AtMost}
-use Rattle.algebra.proofs.RingSolver.{ring, ◌:+◌, ◌:-◌, ◌:*◌, :-◌, ◌:=◌}
+use Rattle.algebra.proofs.RingSolver.{ring, ◌:-◌, :-◌, ◌:=◌}
 use Rattle.algebra.proofs.OrderedRing.{OrderedRing, base, nn_eq, nn_pos, nn_nil, pos_eq, le_refl, le_trans, le_antisymm, le_add, le_mul}
 use Rattle.algebra.proofs.Quadratics.{quadratic_ring}
 

@@ -3,7 +3,7 @@
 -- an identity with the positive combination on the left, from the ring solver, then gives the sign of the right.
 use Rattle.std.proofs.Common.{◌≡◌, ◌⊎◌, sym, refl, ap, ◌∙◌, subst, inl, inr}
 use Rattle.algebra.specs.Arithmetic.{Arithmetic, OrderedRingLaws, Nn}
-use Rattle.algebra.proofs.RingSolver.{CommRing, ring, ◌:+◌, ◌:-◌, ◌:*◌, :-◌, ◌:=◌, :0, :1, neg_nil, nil_mul, sub_nil}
+use Rattle.algebra.proofs.RingSolver.{CommRing, ring, ◌:+◌, ◌:-◌, ◌:*◌, :-◌, ◌:=◌, :0, neg_nil, nil_mul, sub_nil}
 
 pub record OrderedRing : Type 1 where
   pub numbers : Arithmetic

@@ -1,8 +1,8 @@
 -- The ring solver over plane vectors, and the identities of cross products that geometry lives on.
 -- `ring_v R n m f refl` is `ring` for n vectors and then m numbers.
 use Rattle.std.proofs.Common.{◌≡◌, ℕ, zero, suc, ◌+◌ as ◌+ⁿ◌, List, [], ◌∷◌, refl}
-use Rattle.algebra.specs.Plane.{Vec, cross, less, ◌⊗◌}
-use Rattle.algebra.proofs.RingSolver.{CommRing, ring, ◌:+◌, ◌:-◌, ◌:*◌, :-◌, ◌:=◌, :0, Expr, var, Eqn, Function, closed, Holds, holds, difference, none, E}
+use Rattle.algebra.specs.Plane.{Vec, cross, ◌⊗◌}
+use Rattle.algebra.proofs.RingSolver.{CommRing, ◌:+◌, ◌:-◌, ◌:*◌, :-◌, ◌:=◌, :0, Expr, var, Eqn, Function, closed, Holds, holds, difference, none, E}
 use Rattle.algebra.proofs.OrderedRing.{OrderedRing, base}
 
 infix 72 ◌:×◌

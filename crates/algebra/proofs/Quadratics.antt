@@ -1,8 +1,7 @@
 -- The numbers p + q√2 of specs/ are an ordered commutative ring, and the test for positive numbers finds them all.
-use Rattle.std.proofs.Common.{◌≡◌, zero as nought, suc, Bool, true, false, cond, ◌&&◌, ◌||◌, T, ◌⊎◌, ℤ, pos, negsuc, ◌+ℤ◌, ◌*ℤ◌, neg_ℤ, ◌≤ℤ◌, ◌<ℤ◌, sym, refl, ap, ◌∙◌, subst, inl, inr, arith}
-use lib.Signed.{lt_z}
+use Rattle.std.proofs.Common.{◌≡◌, zero as nought, suc, Bool, true, false, cond, ◌&&◌, T, ℤ, pos, negsuc, ◌≤ℤ◌, sym, refl, ap, subst, inl, inr, arith}
 use Rattle.std.proofs.lemmas.Int.{ints, by_lt_z}
-use Rattle.algebra.specs.Arithmetic.{Ops, RingLaws, OrderLaws, Arithmetic, OrderedRingLaws, Nn}
+use Rattle.algebra.specs.Arithmetic.{RingLaws, OrderLaws, Nn}
 use Rattle.algebra.specs.Number.{Number, number, ◌⊕◌, ◌⊛◌, minus, zero, one, square, twice_square, is_zero_part, is_zero, Positive, neither, first, second, above, sign, Signed, SignsSay, quadratic_ops, quadratics}
 use Rattle.algebra.specs.Number as spec
 use Rattle.algebra.specs.declared.Sign.TheVariants.{Minus, Zero, Plus}

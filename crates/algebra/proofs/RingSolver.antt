@@ -1,7 +1,7 @@
 -- Identities of polynomials over a commutative ring are decided by computing.
 -- `ring R n f refl` proves, for all values of the n unknowns of f, the equation that f writes: both sides are brought to a normal form,
 -- a sorted row of signed monomials, and their difference must come out empty. It rests on the laws of a commutative ring alone.
-use Rattle.std.proofs.Common.{◌≡◌, ℕ, zero, suc, Bool, true, false, cond, not, T, leb, List, [], ◌∷◌, sym, refl, ap, ◌∙◌, subst, eqb→eq}
+use Rattle.std.proofs.Common.{◌≡◌, ℕ, zero, suc, Bool, true, false, cond, not, T, leb, List, [], ◌∷◌, sym, refl, ap, ◌∙◌, eqb→eq}
 use mathlib.Core.Bool.{beq}
 use Prim.Native.Nat.{compare, Ordering}
 use lib.Dec.{compare_is_eq}

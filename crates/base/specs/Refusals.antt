@@ -1,7 +1,7 @@
 -- number      by which a refusal is known
 -- place       what it points at: the thing that is wrong, or how many places are needed
 -- refusal     the refusal in an answer, if there is one
-use Rattle.std.specs.Prelude.{ℕ, List, Some, None, Ok, Err, Option, Result}
+use Rattle.std.specs.Prelude.{ℕ, Some, None, Ok, Err, Option, Result}
 use Rattle.base.specs.declared.refusals.Axis.{Axis}
 use Rattle.base.specs.declared.refusals.Axis.TheVariants.{X, Y}
 use Rattle.base.specs.declared.refusals.SheetParameter.{SheetParameter}

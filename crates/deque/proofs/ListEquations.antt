@@ -8,7 +8,7 @@ use Rattle.std.proofs.lemmas.Bool.{cond-true, cond-false, and_from, le-leb, lt-l
 use Rattle.std.proofs.lemmas.Bool.Decides.{nat_tests}
 use Rattle.base.specs.declared.refusals.Refusal.TheVariants.{ListFull}
 use Rattle.deque.specs.declared.Deque.{Deque}
-use Rattle.deque.specs.Contents.{fits, head_over, len_over, Over, ring, contents, round, full_refusal}
+use Rattle.deque.specs.Contents.{head_over, len_over, Over, ring, contents, round, full_refusal}
 use Rattle.deque.proofs.RingOfPlaces.{At, Next, round_at, length_ring, ring_at, ring_last, ring_first, ring_write_last, ring_write_first}
 
 module _ {X : Type 0} where

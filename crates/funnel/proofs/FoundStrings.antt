@@ -8,11 +8,10 @@ use Rattle.algebra.specs.Number.{Number, quadratics, sign}
 use Rattle.geometry.specs.Plane.{Point}
 use Rattle.deque.specs.Contents.{contents}
 use Rattle.words.specs.declared.sorts.Crossing.{Crossing}
-use Rattle.taut.specs.declared.Side.{Side}
 use Rattle.taut.specs.declared.Side.TheVariants.{Left}
 use Rattle.taut.specs.Sleeve.{Vertex, Portal as Passage}
 use Rattle.taut.specs.TautString.{Bend as Turning}
-use Rattle.taut.specs.Funnel.{Funnel, funnel_at, bends, seen_from, funnel}
+use Rattle.taut.specs.Funnel.{bends, seen_from, funnel}
 use Rattle.taut.proofs.FunnelSize.{funnel_few}
 use Rattle.taut.proofs.FunnelVertices.{Each, Ends, funnel_made}
 use Rattle.mesh.specs.Surface.{Surface}
@@ -24,7 +23,7 @@ use Rattle.funnel.specs.declared.Portal.{Portal}
 use Rattle.funnel.specs.declared.Bend.{Bend}
 use Rattle.funnel.specs.declared.Chains.{Chains}
 use Rattle.funnel.specs.Corners.{vertex_meant, portal_meant, bend_meant}
-use Rattle.funnel.specs.Chains.{bend_of, Holds, Stands, Opens, Settles, settled}
+use Rattle.funnel.specs.Chains.{bend_of, Stands, Opens, Settles, settled}
 use Rattle.funnel.specs.Strings.{funnel_of, Reads, as_bend, own_bend, string_of, Writes, Found, Taut, memory_refusal}
 
 module _ (f : Surface) where

@@ -5,7 +5,7 @@ use Rattle.geometry.specs.Plane.{Point}
 use Rattle.words.specs.declared.sorts.Crossing.{Crossing}
 use Rattle.taut.specs.declared.Side.TheVariants.{Left}
 use Rattle.taut.specs.Sleeve.{Portal as Passage}
-use Rattle.taut.specs.Funnel.{funnel_at, widen}
+use Rattle.taut.specs.Funnel.{funnel_at}
 use Rattle.mesh.specs.Surface.{Surface}
 use Rattle.walks.specs.Walks.{portal_of, portals}
 use Rattle.funnel.specs.declared.Corner.{Corner}

@@ -2,12 +2,12 @@
 -- Rests on the order of the numbers p + q√2.
 use Rattle.std.proofs.Common.{◌≡◌, ◌⊎◌, List, [], ◌∷◌, sym, refl, ap, ◌∙◌, subst, inl, inr}
 use Rattle.algebra.specs.Arithmetic.{Nn}
-use Rattle.algebra.specs.Number.{Number, zero, minus, sign, Signed, Positive, ◌⊕◌, ◌⊖◌, ◌⊛◌, quadratic_ops, quadratics}
+use Rattle.algebra.specs.Number.{Number, sign, Signed, ◌⊕◌, ◌⊖◌, ◌⊛◌, quadratic_ops, quadratics}
 use Rattle.algebra.specs.Order.{AtMost}
 use Rattle.algebra.specs.Plane.{Vec, dot, plus, times}
 use Rattle.algebra.specs.declared.Sign.{Sign}
 use Rattle.algebra.specs.declared.Sign.TheVariants.{Minus, Zero, Plus}
-use Rattle.algebra.proofs.RingSolver.{ring, E, ◌:+◌, ◌:-◌, ◌:*◌, :-◌, ◌:=◌, :0, :1}
+use Rattle.algebra.proofs.RingSolver.{E, ◌:+◌, ◌:-◌, ◌:*◌, :-◌, ◌:=◌}
 use Rattle.algebra.proofs.OrderedRing.{OrderedRing, base}
 use Rattle.algebra.proofs.NumberOrder.{at_most_refl, at_most_trans, at_most_antisymm, at_most_add, at_most_mul, at_most_of_minus, at_most_of_zero, at_most_of_plus}
 use Rattle.algebra.proofs.PlaneSolver.{ring_v}

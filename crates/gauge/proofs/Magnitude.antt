@@ -1,18 +1,17 @@
 -- |dx| + |dy| is the largest value of the forms (±1, ±1), and the larger of |dx| and |dy| that of (±1, 0), (0, ±1).
-use Rattle.std.proofs.Common.{◌≡◌, ◌⊎◌, List, [], ◌∷◌, sym, refl, ap, ◌∙◌, subst, inl, inr}
+use Rattle.std.proofs.Common.{◌≡◌, ◌⊎◌, sym, refl, ◌∙◌, subst, inl, inr}
 use Rattle.algebra.specs.Arithmetic.{Nn}
-use Rattle.algebra.specs.Number.{Number, zero, minus, sign, Signed, ◌⊕◌, ◌⊖◌, ◌⊛◌, quadratics}
+use Rattle.algebra.specs.Number.{Number, minus, sign, Signed, ◌⊕◌, quadratics}
 use Rattle.algebra.specs.Order.{AtMost}
 use Rattle.algebra.specs.Plane.{Vec}
 use Rattle.coordinates.specs.Sizes.{signless, magnitude}
 use Rattle.algebra.specs.declared.Sign.{Sign}
 use Rattle.algebra.specs.declared.Sign.TheVariants.{Minus, Zero, Plus}
 use Rattle.algebra.proofs.RingSolver.{ring, ◌:+◌, ◌:-◌, ◌:*◌, :-◌, ◌:=◌, :0, :1}
-use Rattle.algebra.proofs.OrderedRing.{OrderedRing, base, nn_eq, nn_pos, nn_nil, nn_add, pos_eq}
+use Rattle.algebra.proofs.OrderedRing.{OrderedRing, base, nn_eq, nn_pos, nn_nil, nn_add}
 use Rattle.algebra.proofs.NumberOrder.{at_most_refl, at_most_trans, at_most_add}
 use Rattle.algebra.proofs.Quadratics.{quadratic_ring, signs_say}
 use Rattle.gauge.specs.Measure.{Form, at, larger, measure, Among}
-use Rattle.gauge.specs.Laws.{Largest}
 use Rattle.gauge.specs.Forms.{unit, back, nought, l1_forms, maximum_forms}
 use Rattle.gauge.proofs.Largest.{larger_first, larger_second, larger_is, measure_is}
 

@@ -4,7 +4,7 @@ use Rattle.std.proofs.lemmas.List.{at_drop_more, at_drop_all, take_rest}
 use Rattle.algebra.specs.Number.{Number, zero}
 use Rattle.algebra.specs.Plane.{Vec}
 use Rattle.gauge.specs.declared.LinearForm.{LinearForm}
-use Rattle.gauge.specs.Measure.{Form, at, larger, top, measure}
+use Rattle.gauge.specs.Measure.{at, larger, top, measure}
 use Rattle.gauge.specs.Forms.{form_value}
 
 pub one_more : (b b' m whole : Number) (forms : List LinearForm) (i : ℕ) (d : LinearForm) (v : Vec Number) → i < length forms

@@ -3,12 +3,12 @@
 -- maximum_forms    (±1, 0) and (0, ±1)
 -- octagon_forms    (√2, 0), (1, 1), (0, √2), (−1, 1) and their opposites
 -- length_value     the number that a length of the code is
-use Rattle.std.specs.Prelude.{List, [], ◌∷◌, ℤ, pos, negsuc}
+use Rattle.std.specs.Prelude.{List, [], ◌∷◌, pos, negsuc}
 use Rattle.algebra.specs.Number.{Number, number}
 use Rattle.geometry.specs.Plane.{point}
 use Rattle.gauge.specs.declared.LinearForm.{LinearForm}
 use Rattle.gauge.specs.declared.Length.{Length}
-use Rattle.gauge.specs.Measure.{Form, opposite}
+use Rattle.gauge.specs.Measure.{Form}
 
 abbrev pub form_value : LinearForm → Form
 form_value a = point (number a.fp a.fq) (number a.hp a.hq)

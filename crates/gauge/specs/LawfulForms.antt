@@ -1,13 +1,13 @@
 -- The three supplied rows of forms are gauges.
-use Rattle.std.specs.Prelude.{◌≡◌, ℕ, Bool, true, false, T, ◌⊎◌, List, [], ◌∷◌, ℤ, pos, negsuc, ◌≢◌, refl}
-use Rattle.std.proofs.Common.{sym, ap, ◌∙◌, subst, inl, inr, arith}
-use Rattle.std.specs.Int.Signed.{le_z, le_z_yes}
+use Rattle.std.specs.Prelude.{◌≡◌, false, T, List, [], ◌∷◌, pos, negsuc, ◌≢◌, refl}
+use Rattle.std.proofs.Common.{sym, ap, ◌∙◌, subst, inl, inr}
+use Rattle.std.specs.Int.Signed.{le_z_yes}
 use Rattle.algebra.specs.Bounds.{Within}
-use Rattle.algebra.specs.Number.{Number, number, zero, is_zero, quadratic_ops}
-use Rattle.algebra.specs.Plane.{Vec, cross}
+use Rattle.algebra.specs.Number.{Number, zero, is_zero, quadratic_ops}
+use Rattle.algebra.specs.Plane.{cross}
 use Rattle.geometry.specs.Plane.{point}
 use Rattle.gauge.specs.Measure.{Form, Among, opposite, Small, Lawful}
-use Rattle.gauge.specs.Forms.{nought, unit, back, root, root_back, l1_forms, maximum_forms, octagon_forms}
+use Rattle.gauge.specs.Forms.{nought, unit, back, l1_forms, maximum_forms, octagon_forms}
 
 -- a property of each form of a row
 abbrev All : (Form → Type 0) → List Form → Type 0

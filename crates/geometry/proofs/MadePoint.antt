@@ -1,9 +1,8 @@
 -- A point made of two coordinates is the point of the row that they were read from, and nothing refuses it.
-use Rattle.std.proofs.Common.{◌≡◌, Bool, true, false, cond, ◌&&◌, ℤ, pos, negsuc, neg_ℤ, ◌≤ℤ◌, Some, None, sym, refl, ap, ◌∙◌, subst, arith}
-use lib.Signed.{le_z}
+use Rattle.std.proofs.Common.{◌≡◌, true, ℤ, None, subst, arith}
 use Rattle.std.proofs.lemmas.Int.{ints}
 use Rattle.algebra.specs.Bounds.{Within}
-use Rattle.algebra.specs.Number.{Number, number}
+use Rattle.algebra.specs.Number.{Number}
 use Rattle.coordinates.specs.Sizes.{coordinate_value}
 use Rattle.coordinates.specs.declared.Coordinate.{Coordinate}
 use Rattle.geometry.specs.Plane.{Point, point}

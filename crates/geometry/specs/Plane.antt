@@ -4,7 +4,7 @@
 -- doubled_area     of a, b, c: (b − a) × (c − a)
 -- turn         of a, b, c: left, straight or right as doubled_area is positive, zero or negative
 -- mirror       the point with the sign of x changed
-use Rattle.algebra.specs.Number.{Number, number, zero, minus, sign, quadratic_ops}
+use Rattle.algebra.specs.Number.{Number, zero, minus, sign, quadratic_ops}
 use Rattle.algebra.specs.Plane.{Vec, less, cross}
 use Rattle.algebra.specs.declared.Sign.{Sign}
 use Rattle.algebra.specs.declared.Sign.TheVariants.{Minus, Zero, Plus}

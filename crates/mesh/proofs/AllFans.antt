@@ -1,13 +1,13 @@
 -- Walking from every first corner marks exactly the corners of open fans; and the smallest corner that comes round is the first at which the rule on full turns fails.
-use Rattle.std.proofs.Common.{◌≡◌, ℕ, ◌+◌, ◌*◌, ◌<◌, ◌≤◌, Bool, true, ◌⊎◌, List, Some, None, sym, refl, ap, ◌∙◌, subst, inl, inr, arith}
+use Rattle.std.proofs.Common.{◌≡◌, ℕ, ◌+◌, ◌*◌, ◌<◌, ◌≤◌, Bool, ◌⊎◌, List, Some, None, sym, ap, subst, inl, inr, arith}
 use Rattle.std.proofs.lemmas.Bool.Decides.{leb_tells}
 use Rattle.base.specs.declared.ids.HalfEdgeId.{HalfEdgeId}
 use Rattle.base.specs.Ids.{half_edge, next}
-use Rattle.mesh.specs.Surface.{Surface, Has, Later, Covers}
+use Rattle.mesh.specs.Surface.{Surface, Later, Covers}
 use Rattle.mesh.specs.Sound.{Paired, FallsShort, AtEach}
 use Rattle.mesh.specs.Stages.{Starts, InFan, Marked, Fresh, Fanned, WalkedTo, Walked}
 use Rattle.mesh.specs.Verdict.{FirstBad}
-use Rattle.mesh.proofs.FanSteps.{some_none, later_back, later_inside, later_within, fan_within, fan_opens, opens_fan}
+use Rattle.mesh.proofs.FanSteps.{some_none, later_back, later_inside, fan_opens, opens_fan}
 
 split : (s h : HalfEdgeId) → s.0 < h.0 + 1 → (s.0 < h.0) ⊎ (s ≡ h)
 split s h b =

@@ -1,9 +1,9 @@
 -- Where sides are paired, going on and going back in a fan undo each other.
 -- A corner is in the fan of a first corner exactly where its fan is open, and no corner of a fan but the first has boundary behind it.
-use Rattle.std.proofs.Common.{◌≡◌, ℕ, ◌<◌, ◌⊎◌, Some, None, Option, sym, refl, ap, ◌∙◌, subst, inl, inr, arith}
+use Rattle.std.proofs.Common.{◌≡◌, ℕ, ◌⊎◌, Some, None, Option, sym, refl, ap, ◌∙◌, subst, inl, inr, arith}
 use Rattle.base.specs.declared.ids.HalfEdgeId.{HalfEdgeId}
 use Rattle.base.specs.Ids.{half_edge, next, previous}
-use Rattle.mesh.specs.Surface.{Surface, Has, Twins, on, Later, one, more, Opens, edge, across}
+use Rattle.mesh.specs.Surface.{Surface, Has, on, Later, one, more, Opens, edge, across}
 use Rattle.mesh.specs.Sound.{Paired, AtEach}
 use Rattle.mesh.specs.Stages.{Starts, InFan}
 

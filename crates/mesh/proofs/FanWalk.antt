@@ -1,8 +1,8 @@
 -- The walk round one vertex: it never enters a marked corner, so it ends, and then it has marked the whole fan and nothing else.
-use Rattle.std.proofs.Common.{◌≡◌, ℕ, ◌<◌, ◌≤◌, Bool, true, false, ◌⊎◌, List, length, set, Some, None, sym, refl, ap, ◌∙◌, subst, inl, inr, arith}
+use Rattle.std.proofs.Common.{◌≡◌, ℕ, ◌<◌, ◌≤◌, Bool, true, ◌⊎◌, List, length, set, Some, None, sym, refl, ap, ◌∙◌, subst, inl, inr, arith}
 use Rattle.base.specs.declared.ids.HalfEdgeId.{HalfEdgeId}
 use Rattle.base.specs.Ids.{half_edge, next, previous}
-use Rattle.mesh.specs.Surface.{Surface, Has, on, Later, one, more, Covers}
+use Rattle.mesh.specs.Surface.{Surface, Has, on, Later, Covers}
 use Rattle.mesh.specs.Sound.{Paired, AtEach}
 use Rattle.mesh.specs.Stages.{Starts, InFan, Marked, Fresh, Fanned}
 use Rattle.mesh.proofs.FanSteps.{next_previous, previous_same, some_same, some_none, later_none, later_split, back, on_within, fan_on}

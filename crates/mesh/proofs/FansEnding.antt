@@ -1,10 +1,10 @@
 -- On a sound surface going on in a fan reaches boundary: the walk from the first corner never enters a corner twice.
-use Rattle.std.proofs.Common.{◌≡◌, ℕ, zero, suc, ◌+◌, ◌*◌, ◌<◌, ◌≤◌, Bool, true, false, ◌⊎◌, List, length, set, replicate, Some, None, Option, sym, refl, ap, ◌∙◌, subst, inl, inr, arith, length-set}
+use Rattle.std.proofs.Common.{◌≡◌, ℕ, zero, suc, ◌+◌, ◌*◌, ◌<◌, ◌≤◌, Bool, true, false, ◌⊎◌, List, length, set, replicate, Some, None, Option, sym, refl, subst, inl, inr, arith, length-set}
 use lib.ListN.{length-replicate}
 use Rattle.base.specs.declared.ids.HalfEdgeId.{HalfEdgeId}
-use Rattle.mesh.specs.Surface.{Surface, Has, on, Later, one, more, Ends, edge_ahead, ahead}
-use Rattle.mesh.specs.Sound.{Paired, AtEach, Sound, FansEnd}
-use Rattle.mesh.specs.Stages.{Starts, InFan, Marked, Fresh}
+use Rattle.mesh.specs.Surface.{Surface, on, Later, one, more, Ends, edge_ahead, ahead}
+use Rattle.mesh.specs.Sound.{Paired, AtEach, FansEnd}
+use Rattle.mesh.specs.Stages.{Starts}
 use Rattle.mesh.proofs.FanSteps.{some_same, some_none, on_within, opens_fan}
 use Rattle.mesh.proofs.Marks.{unmarked, fewer, none_marked}
 use Rattle.mesh.proofs.FanWalk.{Walking, begin, step}

@@ -1,14 +1,14 @@
 -- Where the rules before hold everywhere and a scan answers the first place at which a rule fails, that refusal is the first that tells the truth;
 -- and where all rules hold, the lists are accepted.
-use Rattle.std.proofs.Common.{◌≡◌, ℕ, ◌*◌, ◌<◌, ◌≤◌, ◌⊎◌, length, get_or, Some, None, sym, refl, subst, inl, inr, arith, lit<}
+use Rattle.std.proofs.Common.{ℕ, ◌*◌, ◌<◌, ◌≤◌, length, Some, refl, inl, inr, arith, lit<}
 use Rattle.std.proofs.lemmas.Bool.Decides.{leb_tells}
 use Rattle.base.specs.declared.ids.TriangleId.{TriangleId}
 use Rattle.base.specs.declared.ids.VertexId.{VertexId}
 use Rattle.base.specs.declared.refusals.Refusal.{Refusal}
 use Rattle.base.specs.declared.refusals.Refusal.TheVariants.{MeshLimits, VertexRange, CornerRange, TriangleTurn, TwinMismatch, ClosedFan, FullTurn}
 use Rattle.base.specs.Ids.{triangle, vertex, half_edge}
-use Rattle.mesh.specs.Surface.{Has, Opens}
-use Rattle.mesh.specs.Sound.{CornerBelow, TurnsLeft, Paired, FallsShort, AtEach, Sound}
+use Rattle.mesh.specs.Surface.{Opens}
+use Rattle.mesh.specs.Sound.{CornerBelow, TurnsLeft, Paired, FallsShort, AtEach}
 use Rattle.mesh.specs.Lists.{Lists, listed, Limits, InRange}
 use Rattle.mesh.specs.Verdict.{Fails, limits, range, corner, turn, twin, fan, span, Before, Accepted, Refused, FirstBad}
 

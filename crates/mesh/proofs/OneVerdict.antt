@@ -1,11 +1,11 @@
 -- Two verdicts on the same lists are the same.
-use Rattle.std.proofs.Common.{◌≡◌, ℕ, ◌-◌, ◌<◌, ◌≤◌, ◌⊎◌, List, [], ◌∷◌, get_or, Ok, Err, Result, sym, refl, ap, ◌∙◌, subst, inl, inr, arith}
+use Rattle.std.proofs.Common.{◌≡◌, ℕ, ◌-◌, ◌<◌, ◌≤◌, ◌⊎◌, [], ◌∷◌, get_or, Ok, Err, sym, refl, ap, ◌∙◌, inl, inr, arith}
 use Rattle.base.specs.declared.refusals.Refusal.{Refusal}
 use Rattle.base.specs.declared.refusals.Refusal.TheVariants.{MeshLimits, VertexRange, CornerRange, TriangleTurn, TwinMismatch, ClosedFan, FullTurn}
 use Rattle.base.specs.Ids.{triangle, vertex, half_edge}
 use Rattle.base.specs.Refusals.{number, place}
 use Rattle.mesh.specs.Lists.{Lists, listed}
-use Rattle.mesh.specs.Verdict.{Fails, limits, range, corner, turn, twin, fan, span, Before, Accepted, Refused, Verdict, VerdictsAgree}
+use Rattle.mesh.specs.Verdict.{Fails, limits, range, corner, turn, twin, fan, span, Accepted, Refused, VerdictsAgree}
 
 -- the refusal of lists by its number and place
 numbered : Lists → ℕ → ℕ → Refusal

@@ -17,7 +17,7 @@ use Rattle.base.specs.declared.ids.HalfEdgeId.{HalfEdgeId}
 use Rattle.base.specs.Ids.{vertex, side, next, previous}
 use Rattle.geometry.specs.Plane.{Point, origin, turn}
 use Rattle.geometry.specs.declared.Turn.{Turn}
-use Rattle.geometry.specs.declared.Turn.TheVariants.{Left, Straight, Right}
+use Rattle.geometry.specs.declared.Turn.TheVariants.{Right}
 
 pub record Surface : Type 0 where
   pub F : ℕ

@@ -1,8 +1,8 @@
 -- Reading a fan back from a corner: it comes to the one first corner that the corner belongs to, or it goes round for ever.
-use Rattle.std.proofs.Common.{◌≡◌, ◌⊎◌, Some, None, sym, refl, ap, ◌∙◌, subst, inl, inr}
+use Rattle.std.proofs.Common.{◌≡◌, Some, None, sym, subst, inl, inr}
 use Rattle.base.specs.declared.ids.HalfEdgeId.{HalfEdgeId}
 use Rattle.base.specs.Ids.{next}
-use Rattle.mesh.specs.Surface.{Surface, Has, Twins, Later, Opens, edge, across, Covers}
+use Rattle.mesh.specs.Surface.{Surface, Has, Twins, Opens, edge, across, Covers}
 use Rattle.mesh.specs.Sound.{Paired, FallsShort, AtEach}
 use Rattle.mesh.specs.Stages.{InFan}
 use Rattle.mesh.proofs.FanSteps.{some_same, some_none, later_back, later_inside}

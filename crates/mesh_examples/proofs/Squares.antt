@@ -1,20 +1,19 @@
 -- The square of four triangles round its middle: refused 6 at corner 2 where all sides at the middle are portals, 7 at corner 11 where it is slit along one of them.
 -- Without the middle, cut into two triangles, it is accepted.
-use Rattle.std.proofs.Common.{◌≡◌, ℕ, ◌<◌, ◌≤◌, ◌⊎◌, List, [], ◌∷◌, length, pos, Some, None, sym, refl, ap, ◌∙◌, subst, inl, inr, arith, lit<, lit≤}
+use Rattle.std.proofs.Common.{◌≡◌, ℕ, List, [], ◌∷◌, length, pos, Some, refl, arith, lit<, lit≤}
 use Rattle.base.specs.declared.ids.VertexId.{VertexId}
 use Rattle.base.specs.declared.ids.HalfEdgeId.{HalfEdgeId}
 use Rattle.base.specs.declared.refusals.Refusal.TheVariants.{ClosedFan, FullTurn}
 use Rattle.base.specs.Ids.{triangle, vertex, half_edge, boundary, next}
 use Rattle.algebra.specs.Number.{number}
 use Rattle.geometry.specs.Plane.{Point, point}
-use Rattle.geometry.specs.declared.Turn.TheVariants.{Left, Straight, Right}
-use Rattle.mesh.specs.Surface.{Surface, Twins, Later, one, more, Opens, edge, across, Covers}
+use Rattle.mesh.specs.Surface.{one, more, Opens, edge, across, Covers}
 use Rattle.mesh.specs.Sound.{CornerBelow, TurnsLeft, Paired, FallsShort, AtEach}
 use Rattle.mesh.specs.Lists.{Lists, lists, listed, Limits, InRange}
 use Rattle.mesh.specs.Verdict.{Accepted, Refused}
 use Rattle.mesh.proofs.FirstRefusal.{refuse_fan, refuse_span, accept}
 use Rattle.mesh_examples.proofs.Each.{Below, ◌▸◌, each}
-use Rattle.mesh_examples.proofs.FanReading.{paired_none, paired_some, never_opens, From, here, via, falls_short, first_falls_short}
+use Rattle.mesh_examples.proofs.FanReading.{paired_none, paired_some, never_opens, here, via, falls_short, first_falls_short}
 
 abbrev pub at : ℕ → ℕ → Point
 at a b = point (number (pos a) (pos 0)) (number (pos b) (pos 0))

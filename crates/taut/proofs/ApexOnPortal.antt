@@ -3,7 +3,7 @@
 use Rattle.std.proofs.Common.{◌≡◌, List, [], ◌∷◌, ◌++◌, sym, ap, ◌∙◌, subst}
 use Rattle.algebra.specs.Arithmetic.{Arithmetic, Nn}
 use Rattle.algebra.specs.Plane.{Vec, ◌⟶◌ as ◌⇢◌}
-use Rattle.algebra.proofs.RingSolver.{CommRing, at}
+use Rattle.algebra.proofs.RingSolver.{CommRing}
 use Rattle.algebra.proofs.OrderedRing.{OrderedRing, base, pos_eq, nn_eq, nn_pos, nn_cancel, signs}
 use Rattle.taut.specs.declared.Side.{Side}
 use Rattle.taut.specs.Sleeve.{other, Vertex, Portal, end, veer, Link, Ahead}

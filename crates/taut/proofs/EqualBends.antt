@@ -5,7 +5,6 @@
 use Rattle.std.proofs.Common.{◌≡◌, List, [], ◌∷◌, ◌++◌, sym, ap, ◌∙◌, subst, inl, inr}
 use Rattle.algebra.specs.Arithmetic.{Arithmetic, Nn}
 use Rattle.algebra.specs.Plane.{Vec, ◌⟶◌ as ◌⇢◌}
-use Rattle.algebra.proofs.RingSolver.{at}
 use Rattle.algebra.proofs.OrderedRing.{OrderedRing, pos_eq, nn_eq, nn_pos, signs}
 use Rattle.taut.specs.declared.Side.{Side}
 use Rattle.taut.specs.declared.Side.TheVariants.{Left, Right}

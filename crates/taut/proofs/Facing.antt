@@ -1,6 +1,6 @@
 -- A point x that is not in front of a portal, and a direction d from it that crosses this portal and the next: x is not in front of the next portal either (`facing`);
 -- and an end of the next portal on the ray's line does not lie behind x (`not_behind`). The end f is replaced by z, the end o stays. h is a witness on a side of d.
-use Rattle.std.proofs.Common.{◌≡◌, zero, sym, ap, ◌∙◌, inl, inr}
+use Rattle.std.proofs.Common.{◌≡◌, sym, ap, ◌∙◌, inl, inr}
 use Rattle.algebra.specs.Arithmetic.{Arithmetic, Nn}
 use Rattle.algebra.specs.Plane.{Vec, ◌⟶◌ as ◌⇢◌}
 use Rattle.algebra.proofs.RingSolver.{CommRing, neg_nil}

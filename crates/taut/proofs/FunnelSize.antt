@@ -1,6 +1,6 @@
 -- The funnel finds at most as many bends as there are portals, for every row of portals, a sleeve or not.
 -- n portals leave at most n + 1 vertices in a funnel, and at most n where one of its chains is empty (`Few`); each new end drops a vertex before it empties the near chain.
-use Rattle.std.proofs.Common.{◌≡◌, ℕ, suc, ◌+◌, ◌≤◌, Bool, true, false, cond, ◌⊎◌, List, [], ◌∷◌, ◌++◌, reverse, length, refl, inl, inr, arith}
+use Rattle.std.proofs.Common.{◌≡◌, ℕ, suc, ◌+◌, ◌≤◌, Bool, true, false, cond, ◌⊎◌, List, [], ◌∷◌, ◌++◌, length, refl, inl, inr, arith}
 use Rattle.std.proofs.lemmas.List.{length-append, length-reverse}
 use Rattle.algebra.specs.Arithmetic.{Arithmetic}
 use Rattle.algebra.specs.Plane.{Vec}
@@ -9,7 +9,7 @@ use Rattle.taut.specs.declared.Side.{Side}
 use Rattle.taut.specs.declared.Side.TheVariants.{Left, Right}
 use Rattle.taut.specs.Sleeve.{other, Vertex, Portal}
 use Rattle.taut.specs.TautString.{Bend, aim}
-use Rattle.taut.specs.Funnel.{Funnel, bears, next, advance, settle, push, flip, gain, widen, funnel_at, bends, seen_from, funnel}
+use Rattle.taut.specs.Funnel.{Funnel, bears, next, advance, settle, push, flip, gain, widen, funnel_at, bends, funnel}
 
 -- what holds of both holds of either
 pub of_either : {X : Type 0} (Q : X → Type 0) (b : Bool) (x y : X) → Q x → Q y → Q (cond b x y)

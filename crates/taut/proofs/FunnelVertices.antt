@@ -1,5 +1,5 @@
 -- Every bend that the funnel finds is an end of one of the portals: what holds of all their ends holds of all bends.
-use Rattle.std.proofs.Common.{◌≡◌, cond, List, [], ◌∷◌, ◌++◌, reverse}
+use Rattle.std.proofs.Common.{List, [], ◌∷◌, ◌++◌, reverse}
 use mathlib.Core.List.{reverse_aux}
 use Rattle.algebra.specs.Arithmetic.{Arithmetic}
 use Rattle.algebra.specs.Plane.{Vec}
@@ -8,7 +8,7 @@ use Rattle.taut.specs.declared.Side.{Side}
 use Rattle.taut.specs.declared.Side.TheVariants.{Left, Right}
 use Rattle.taut.specs.Sleeve.{other, Vertex, Portal}
 use Rattle.taut.specs.TautString.{Bend, aim}
-use Rattle.taut.specs.Funnel.{Funnel, bears, next, advance, settle, push, flip, gain, widen, funnel_at, bends, funnel}
+use Rattle.taut.specs.Funnel.{Funnel, bears, next, advance, settle, push, flip, gain, funnel_at, bends, funnel}
 use Rattle.taut.proofs.FunnelSize.{of_either}
 
 abbrev pub Each : {X : Type 0} → (X → Type 0) → List X → Type 0

@@ -4,13 +4,12 @@
 use Rattle.std.proofs.Common.{◌≡◌, List, [], ◌∷◌, sym, refl, ap, ◌∙◌, subst, inl, inr}
 use Rattle.algebra.specs.Arithmetic.{Arithmetic, Nn}
 use Rattle.algebra.specs.Plane.{Vec, ◌⟶◌ as ◌⇢◌}
-use Rattle.algebra.proofs.RingSolver.{CommRing, none}
+use Rattle.algebra.proofs.RingSolver.{CommRing}
 use Rattle.algebra.proofs.OrderedRing.{OrderedRing, base, pos_eq, nn_eq, nn_pos, sign}
 use Rattle.taut.specs.declared.Side.{Side}
 use Rattle.taut.specs.declared.Side.TheVariants.{Left, Right}
 use Rattle.taut.specs.Sleeve.{other, Portal, end, veer, Front, Behind, Ahead, Sleeve}
 use Rattle.taut.specs.TautString.{Bend, Crosses, Turns, aim, Stretched, TautString}
-use Rattle.taut.specs.Fan.{ends}
 use Rattle.taut.proofs.Veer.{swap, back, still, from_head, to_foot, cyc, behind_is, left_end, right_end}
 use Rattle.taut.proofs.Sides.{which, side_of, both}
 use Rattle.taut.proofs.Portals.{front, on_line}

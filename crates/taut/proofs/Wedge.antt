@@ -1,6 +1,6 @@
 -- The wedge of directions at the apex, from the near chain's last edge to the far chain's: open, or shut to one direction with a witness on its side.
 -- `transfer`: what lies before the portal and not beyond the near edge is not beyond the far edge. `inside`: a direction from before the portal in the wedge has the signs that both edges have.
-use Rattle.std.proofs.Common.{◌≡◌, zero, ◌⊎◌, sym, ap, ◌∙◌, inl, inr}
+use Rattle.std.proofs.Common.{◌≡◌, ◌⊎◌, sym, ap, ◌∙◌, inl, inr}
 use Rattle.algebra.specs.Arithmetic.{Arithmetic, Nn}
 use Rattle.algebra.specs.Plane.{Vec, ◌⟶◌ as ◌⇢◌}
 use Rattle.algebra.proofs.RingSolver.{CommRing, nil_mul}

@@ -10,11 +10,10 @@
 -- Run        the rays of a run, the portals that share an end: the far ends after that of the first portal, and the vertex or end point after the run
 -- Round      the rays of a run, from the vertex or start before it, make a fan
 -- FanBound   every run of a sleeve, on either side, makes a fan
-use Rattle.std.specs.Prelude.{◌≡◌, ◌⊎◌, List, [], ◌∷◌}
+use Rattle.std.specs.Prelude.{◌⊎◌, List, [], ◌∷◌}
 use Rattle.algebra.specs.Arithmetic.{Arithmetic, Nn}
 use Rattle.algebra.specs.Plane.{Vec, less, ◌⟶◌ as ◌⇢◌}
 use Rattle.taut.specs.declared.Side.{Side}
-use Rattle.taut.specs.declared.Side.TheVariants.{Left, Right}
 use Rattle.taut.specs.Sleeve.{other, Portal, end, veer, Keeps}
 
 module _ (N : Arithmetic) (t : Side) where

@@ -11,7 +11,7 @@ use Rattle.std.specs.Prelude.{◌≡◌, ℕ, suc, ◌<◌, ◌≤◌, List, [],
 use Rattle.algebra.specs.Arithmetic.{Arithmetic, Nn}
 use Rattle.algebra.specs.Plane.{Vec, ◌⟶◌ as ◌⇢◌}
 use Rattle.taut.specs.declared.Side.{Side}
-use Rattle.taut.specs.declared.Side.TheVariants.{Left, Right}
+use Rattle.taut.specs.declared.Side.TheVariants.{Left}
 use Rattle.taut.specs.Sleeve.{Vertex, Portal, end, veer}
 
 pub record Bend (A : Type 0) : Type 0 where

@@ -1,6 +1,6 @@
 -- Two walks leave a triangle by two of its sides: the first goes round the corner between these to the right, the second to the left. The rays of both runs make one fan (`one_fan`).
 -- Going both ways from that corner the rays of the surface make a fan (`both_ways`); the run to the left is put in place of the corners there, then, read from the other end, the run to the right.
-use Rattle.std.proofs.Common.{◌≡◌, List, [], ◌∷◌, ◌++◌, reverse, sym, refl, ap, ◌∙◌, subst}
+use Rattle.std.proofs.Common.{◌≡◌, List, ◌∷◌, ◌++◌, reverse, sym, refl, ap, ◌∙◌, subst}
 use mathlib.Core.List.{reverse_aux-eq, reverse-append, reverse-reverse}
 use Rattle.base.specs.declared.ids.TriangleId.{TriangleId}
 use Rattle.base.specs.declared.ids.HalfEdgeId.{HalfEdgeId}

@@ -1,4 +1,4 @@
-use Rattle.std.proofs.Common.{◌-ℤ◌, to_z-of_z, w64, SFits, to_z, of_z, rules}
+use Rattle.std.proofs.Common.{◌-ℤ◌, to_z-of_z, SFits, rules}
 use mir.Syntax.{w128}
 use Rattle.algebra.proofs.Magnitudes.{gap_fits, above_first, above_second}
 use Rattle.algebra.proofs.signs.is_above.Goals as goal

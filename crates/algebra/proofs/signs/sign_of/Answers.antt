@@ -1,4 +1,4 @@
-use Rattle.std.proofs.Common.{◌≡◌, true, false, sym, to_z-of_z, w64, SFits, to_z, of_z}
+use Rattle.std.proofs.Common.{◌≡◌, true, false, sym, to_z-of_z}
 use Rattle.algebra.specs.Number.{number, above, is_zero}
 use Rattle.algebra.proofs.Magnitudes.{not_zero}
 use Rattle.algebra.proofs.signs.sign_of.Goals as goal

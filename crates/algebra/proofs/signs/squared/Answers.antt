@@ -1,4 +1,4 @@
-use Rattle.std.proofs.Common.{◌*ℤ◌, to_z-of_z, w64, SFits, to_z, of_z}
+use Rattle.std.proofs.Common.{◌*ℤ◌, to_z-of_z, SFits}
 use mir.Syntax.{w128}
 use Rattle.algebra.proofs.Magnitudes.{square_low, square_high, square_fits, wider_fits}
 use Rattle.algebra.proofs.signs.squared.Goals as goal

@@ -1,6 +1,5 @@
-use Rattle.std.proofs.Common.{◌≡◌, ℤ, ap, ◌∙◌, arith}
+use Rattle.std.proofs.Common.{ap, ◌∙◌, arith}
 use Rattle.std.proofs.lemmas.Int.{ints}
-use Rattle.algebra.specs.Number.{Number}
 use Rattle.algebra.proofs.Magnitudes.{same_number, taken}
 use Rattle.coordinates.proofs.products.cross.Goals as goal
 

@@ -1,4 +1,4 @@
-use Rattle.std.proofs.Common.{w32, w64, SFits, rules}
+use Rattle.std.proofs.Common.{w32, SFits, rules}
 use Rattle.algebra.proofs.Magnitudes.{part_product, part_bound}
 use Rattle.coordinates.proofs.products.product_of.Goals as goal
 

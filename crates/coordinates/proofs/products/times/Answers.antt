@@ -1,4 +1,4 @@
-use Rattle.std.proofs.Common.{◌≡◌, ◌∙◌, arith}
+use Rattle.std.proofs.Common.{◌∙◌, arith}
 use Rattle.algebra.proofs.Magnitudes.{same_number, added, double_fits, sum_fits, pair_fits, sum_is, within_double, within_area, within_pair, area_is}
 use Rattle.coordinates.proofs.products.times.Goals as goal
 

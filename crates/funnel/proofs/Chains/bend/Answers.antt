@@ -1,4 +1,4 @@
-use Rattle.std.proofs.Common.{◌≡◌, Some, None, sym, ap, ◌∙◌, rules}
+use Rattle.std.proofs.Common.{sym, ap, ◌∙◌}
 use Rattle.taut.specs.declared.Side.TheVariants.{Left}
 use Rattle.funnel.specs.Strings.{as_bend, own_bend}
 use Rattle.funnel.proofs.WrittenBends.{mapped, nth_front, nth_behind}

@@ -1,8 +1,4 @@
-use Rattle.std.proofs.Common.{◌≡◌, ◌-◌, ◌*◌, ◌≤◌, map, length}
-use Rattle.algebra.specs.Bounds.{Within}
-use Rattle.algebra.specs.Number.{◌⊕◌}
-use Rattle.gauge.specs.Forms.{length_value}
-use Rattle.gauge.specs.Measure.{span}
+use Rattle.std.proofs.Common.{length}
 use Rattle.gauge.proofs.Spans.{Walked}
 use Rattle.gauge.proofs.rows.span_of.Given as goal
 

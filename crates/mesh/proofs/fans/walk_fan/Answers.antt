@@ -1,4 +1,4 @@
-use Rattle.std.proofs.Common.{◌≡◌, ℕ, ◌*◌, ◌<◌, Bool, true, List, map, length, set, Some, None, sym, ap, subst, arith}
+use Rattle.std.proofs.Common.{◌*◌, ◌<◌, map, length, sym, subst, arith}
 use Rattle.mesh.specs.Lists.{lists, listed}
 use Rattle.mesh.specs.Stages.{Fanned}
 use Rattle.mesh.proofs.FanSteps.{on_within}

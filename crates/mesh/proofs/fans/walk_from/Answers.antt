@@ -1,4 +1,4 @@
-use Rattle.std.proofs.Common.{◌≡◌, ◌*◌, map, sym, refl, inl, inr, arith}
+use Rattle.std.proofs.Common.{◌*◌, map, sym, refl, inl, inr, arith}
 use Rattle.mesh.specs.Lists.{lists, listed}
 use Rattle.mesh.proofs.AllFans.{fresh, passed, walked}
 use Rattle.mesh.proofs.fans.walk_from.Goals as goal

@@ -1,4 +1,4 @@
-use Rattle.std.proofs.Common.{◌≡◌, ℕ, sym, ap, ◌∙◌, arith, below_more}
+use Rattle.std.proofs.Common.{◌≡◌, ℕ, ap, ◌∙◌, arith, below_more}
 use Rattle.geometry.specs.Ranges.{point_refusal}
 use Rattle.mesh.proofs.ReadRows.{read_row}
 use Rattle.mesh.proofs.scans.first_out_of_range.Goals as goal

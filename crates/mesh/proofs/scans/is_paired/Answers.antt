@@ -1,7 +1,6 @@
-use Rattle.std.proofs.Common.{◌≡◌, [], sym, ◌∙◌, subst}
+use Rattle.std.proofs.Common.{◌≡◌, [], sym, subst}
 use Rattle.mesh.specs.Surface.{Twins}
 use Rattle.mesh.specs.Lists.{lists, listed}
-use Rattle.base.specs.declared.ids.HalfEdgeId.{HalfEdgeId}
 use Rattle.mesh.proofs.scans.is_paired.Goals as goal
 
 pub returns-in-Some : goal.returns-in-Some

@@ -1,10 +1,10 @@
-use Rattle.std.proofs.Common.{◌≡◌, ℕ, ◌*◌, ◌<◌, ◌≤◌, map, Some, None, sym, ap, subst, arith}
+use Rattle.std.proofs.Common.{map, Some, None, sym, subst, arith}
 use Rattle.std.proofs.lemmas.Bool.Decides.{not_from_Decides}
 use Rattle.base.specs.declared.refusals.Refusal.TheVariants.{ClosedFan, FullTurn}
 use Rattle.base.specs.Ids.{half_edge}
-use Rattle.mesh.specs.Lists.{lists, listed, Limits}
+use Rattle.mesh.specs.Lists.{lists, Limits}
 use Rattle.mesh.specs.Verdict.{Refused}
-use Rattle.mesh.proofs.ListStages.{range_scan, corner_scan, twin_scan, fan_scan, readable, sized, walkable}
+use Rattle.mesh.proofs.ListStages.{range_scan, corner_scan, twin_scan, fan_scan, readable, walkable}
 use Rattle.mesh.proofs.FirstRefusal.{refuse_limits, refuse_range, refuse_corner, refuse_turn, refuse_twin, refuse_fan, refuse_span, accept}
 use Rattle.mesh.proofs.validation.validate.Goals as goal
 

@@ -1,6 +1,6 @@
-use Rattle.std.proofs.Common.{◌≡◌, ℕ, inl, inr, arith, rules}
+use Rattle.std.proofs.Common.{◌≡◌, ℕ, inl, inr, arith}
 use lib.ListN.{length-map}
-use Rattle.std.proofs.lemmas.Bool.Decides.{nat_tests, Decides-eqb}
+use Rattle.std.proofs.lemmas.Bool.Decides.{Decides-eqb}
 use Rattle.mesh.proofs.validation.within_limits.Goals as goal
 
 pub returns-then-rows-lt-FEWEST_VERTICES : goal.returns-then-rows-lt-FEWEST_VERTICES

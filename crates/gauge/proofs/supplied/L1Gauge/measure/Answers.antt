@@ -1,4 +1,4 @@
-use Rattle.std.proofs.Common.{◌≡◌, ◌∙◌}
+use Rattle.std.proofs.Common.{◌∙◌}
 use Rattle.algebra.specs.Number.{◌⊕◌}
 use Rattle.geometry.specs.Points.{step_value}
 use Rattle.gauge.proofs.Magnitude.{l1_is}

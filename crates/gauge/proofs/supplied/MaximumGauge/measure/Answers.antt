@@ -1,4 +1,4 @@
-use Rattle.std.proofs.Common.{◌≡◌, ◌∙◌}
+use Rattle.std.proofs.Common.{◌∙◌}
 use Rattle.geometry.specs.Points.{step_value}
 use Rattle.gauge.specs.Measure.{larger}
 use Rattle.gauge.proofs.Magnitude.{maximum_is}
