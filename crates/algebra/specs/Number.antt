@@ -1,5 +1,5 @@
 -- Number        p + q√2 with whole p and q
--- _⊕_ _⊛_ minus _⊖_   sum, product, opposite and difference
+-- ◌⊕◌ ◌⊛◌ minus ◌⊖◌   sum, product, opposite and difference
 -- zero one      0 and 1
 -- Positive      which numbers are positive; all others but 0 are negative
 -- above         the same as a test; is_zero tests for 0

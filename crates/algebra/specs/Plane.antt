@@ -4,7 +4,7 @@
 -- times      a multiple of a step
 -- cross      the cross product: positive where the second step points to the left of the first
 -- dot        the value of a linear form at a step
--- _⊗_ _⟶_ _⊙_   cross product, step from point to point, and value of a form, as closed words of an arithmetic
+-- ◌⊗◌ ◌⟶◌ ◌⊙◌   cross product, step from point to point, and value of a form, as closed words of an arithmetic
 use Rattle.algebra.specs.Arithmetic.{Ops, Arithmetic}
 
 pub record Vec (A : Type 0) : Type 0 where

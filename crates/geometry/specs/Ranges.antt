@@ -1,4 +1,4 @@
--- in-range         a part lies from −10,000 to 10,000
+-- in_range         a part lies from −10,000 to 10,000
 -- point_refusal    why a point cannot be made of two numbers: x is out of range, or else y is
 -- Made             the answer of making a point: the refusal if there is one, else the point of these numbers
 use Rattle.std.specs.Prelude.{◌≡◌, Bool, cond, ◌&&◌, ℤ, pos, negsuc, Some, None, Ok, Err, Option, Result, int_le}

@@ -12,12 +12,13 @@ mod shown;
 mod stop;
 mod text;
 
-use anyhow::anyhow;
 use session::Session;
 use std::io::{BufRead, BufReader};
+use std::process::ExitCode;
 use stop::Stop;
 
-fn main(rt: HostRuntime) -> anyhow::Result<()> {
+// A line that is no command is named on standard error, and nothing else is.
+fn main(rt: HostRuntime) -> anyhow::Result<ExitCode> {
     let heap = rt.alloc();
     let mut session = Session::new(heap);
     let mut number: u64 = 0;
@@ -27,10 +28,10 @@ fn main(rt: HostRuntime) -> anyhow::Result<()> {
             Ok(()) => {}
             Err(Stop::Expected(what)) => {
                 eprintln!(rt; "line {number}: expected {what}")?;
-                return Err(anyhow!("the script has a line that is no command"));
+                return Ok(ExitCode::FAILURE);
             }
             Err(Stop::Failed(error)) => return Err(error),
         }
     }
-    Ok(())
+    Ok(ExitCode::SUCCESS)
 }

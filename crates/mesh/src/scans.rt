@@ -1,5 +1,5 @@
 // One scan for each rule that is tested place by place.
-ghost use Rattle.std.specs.Prelude.{◌≡◌, ◌*◌, ◌<◌, ◌≤◌, [], map, length, get_or, None, Decides, slice_index_or};
+ghost use Rattle.std.specs.Prelude.{◌≡◌, ◌*◌, ◌<◌, ◌≤◌, [], map, length, None, Decides, slice_index_or};
 ghost use Rattle.base.specs.Ids.{vertex, triangle, half_edge, boundary, leads, next};
 ghost use Rattle.geometry.specs.Plane.{origin};
 ghost use Rattle.geometry.specs.Ranges.{point_refusal};
@@ -27,7 +27,7 @@ pub(crate) fn first_out_of_range<P: PointKind>(rows: &[P::Row]) -> Option<usize>
 
 // The first corner that names no vertex.
 pub(crate) fn first_far_corner(corners: &[VertexId], vertices: usize) -> Option<usize>
-    ensures { FirstBad (λ k. (get_or corners.now k (vertex 0)).0 < vertices) (length corners.now) result }
+    ensures { FirstBad (λ k. (slice_index_or corners.now k (vertex 0)).0 < vertices) (length corners.now) result }
 {
     for i in 0..corners.len() {
         if corners[i].0 as usize >= vertices {

@@ -7,7 +7,7 @@ ghost use Rattle.base.specs.declared.refusals.Refusal.TheVariants.{ClosedFan, Fu
 
 use base::ids::{HalfEdgeId, VertexId};
 use base::refusals::Refusal;
-use geometry::IntegerRow;
+use geometry::{IntegerPoint, IntegerRow};
 use mesh::validation::validate;
 
 const NONE: HalfEdgeId = HalfEdgeId(65_535);
@@ -55,7 +55,7 @@ pub fn closed_square() -> Result<(), Refusal>
         HalfEdgeId(2),
         HalfEdgeId(7),
     ];
-    validate::<geometry::IntegerPoint>(4, &POINTS, &CORNERS, &across)
+    validate::<IntegerPoint>(4, &POINTS, &CORNERS, &across)
 }
 
 // The side between vertex 0 and the middle is boundary from both sides: the triangles come all the way round to it.
@@ -76,7 +76,7 @@ pub fn slit_square() -> Result<(), Refusal>
         NONE,
         HalfEdgeId(7),
     ];
-    validate::<geometry::IntegerPoint>(4, &POINTS, &CORNERS, &across)
+    validate::<IntegerPoint>(4, &POINTS, &CORNERS, &across)
 }
 
 // The square cut along one diagonal is a sound mesh.
@@ -98,5 +98,5 @@ pub fn halved_square() -> Result<(), Refusal>
         VertexId(3),
     ];
     let across = [NONE, NONE, HalfEdgeId(3), HalfEdgeId(2), NONE, NONE];
-    validate::<geometry::IntegerPoint>(2, &rows, &corners, &across)
+    validate::<IntegerPoint>(2, &rows, &corners, &across)
 }

@@ -4,7 +4,7 @@
 -- end        the end of a portal on a side
 -- veer       positive where the second step points to that side of the first, zero where it lies along its line
 -- Front      a point lies strictly in front of a portal: left end, right end and the point turn left
--- OnLine    a point lies on the line of a portal
+-- OnLine     a point lies on the line of a portal
 -- Behind     a point lies strictly behind a portal
 -- Keeps      the second portal keeps the end of the first on that side; its other end is another vertex, strictly in front of the first
 -- Link       the second portal follows on the first: it keeps one of its ends

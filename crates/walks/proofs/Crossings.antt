@@ -39,8 +39,8 @@ after Left c = c.entered
 after Right c = next c.entered
 
 -- the second crossing goes on round the end on that side
-abbrev pub Goes_on : Side → Crossing → Crossing → Type 0
-Goes_on t c d = before t d ≡ after t c
+abbrev pub GoesOn : Side → Crossing → Crossing → Type 0
+GoesOn t c d = before t d ≡ after t c
 
 -- ---- codes
 pub next_next : (h : HalfEdgeId) → next (next h) ≡ previous h
@@ -66,7 +66,7 @@ before_triangle Left c = same_triangle c.left
 before_triangle Right c = refl
 
 -- a crossing that goes on round the other end has the third corner on this side
-pub leaves_by : (t : Side) (c d : Crossing) → Goes_on (other t) c d → before t d ≡ far t (after t c)
+pub leaves_by : (t : Side) (c d : Crossing) → GoesOn (other t) c d → before t d ≡ far t (after t c)
 leaves_by Left c d e = ap next e ∙ next_next c.entered
 leaves_by Right c d e = sym (previous_next d.left) ∙ ap previous e ∙ sym (next_next c.entered)
 
@@ -136,7 +136,7 @@ module _ (f : Surface) where
     third_in_front : (c : Crossing) → Crossed f c → Front quadratics (portal_of f c) (spot f (previous c.entered))
     third_in_front c k = in_front c k (spot f (previous c.entered)) (corner_turns f sound c.entered (entered_within c k) Left)
 
-    pub keeps : (t : Side) (c d : Crossing) → Crossed f c → Goes_on t c d → Keeps quadratics t (portal_of f c) (portal_of f d)
+    pub keeps : (t : Side) (c d : Crossing) → Crossed f c → GoesOn t c d → Keeps quadratics t (portal_of f c) (portal_of f d)
     keeps t c d k on =
         let new : end (other t) (portal_of f d) ≡ vertex_at f (previous c.entered) =
         far_end_at t d ∙ ap (λ h. vertex_at f (far t h)) on ∙ ap (vertex_at f) (third_corner t c) in
@@ -153,7 +153,7 @@ module _ (f : Surface) where
 
     -- a crossing followed by one out of the triangle entered: it is the way back, or it goes on round one end
     pub goes_on_round : (c d : Crossing) (w : List Crossing) → Crossed f c → triangle_of d.left ≡ triangle_of c.entered → f.twin d.left ≡ Some d.entered → Reduced recrossed (c ∷ d ∷ w)
-        → Goes_on Left c d ⊎ Goes_on Right c d
+        → GoesOn Left c d ⊎ GoesOn Right c d
     goes_on_round c d w k e t r = elim (three_ways d.left c.entered e) [
       | inl same ↦
           let back : d.entered ≡ c.left = some_same t (ap f.twin same ∙ (twins_of c k).back) in
@@ -162,12 +162,12 @@ module _ (f : Surface) where
       | inr way ↦ way
     ]
 
-    pub link : (c d : Crossing) → Crossed f c → Goes_on Left c d ⊎ Goes_on Right c d → Link quadratics (portal_of f c) (portal_of f d)
+    pub link : (c d : Crossing) → Crossed f c → GoesOn Left c d ⊎ GoesOn Right c d → Link quadratics (portal_of f c) (portal_of f d)
     link c d k (inl on) = inl (keeps Left c d k on)
     link c d k (inr on) = inr (keeps Right c d k on)
 
     -- where the end on a side is kept, the crossing goes on round it
-    pub kept_round : (t : Side) (c d : Crossing) → Crossed f c → Goes_on Left c d ⊎ Goes_on Right c d → Keeps quadratics t (portal_of f c) (portal_of f d) → Goes_on t c d
+    pub kept_round : (t : Side) (c d : Crossing) → Crossed f c → GoesOn Left c d ⊎ GoesOn Right c d → Keeps quadratics t (portal_of f c) (portal_of f d) → GoesOn t c d
     kept_round Left c d k (inl on) h = on
     kept_round Left c d k (inr on) h = absurd (h.2 (ap (λ v. v.number) (keeps Right c d k on).0))
     kept_round Right c d k (inl on) h = absurd (h.2 (ap (λ v. v.number) (keeps Left c d k on).0))

@@ -26,7 +26,7 @@ use Rattle.walks.specs.Walks.{Walk, vertex_at, portal_of, portals, Inside, Joins
 use Rattle.walks.specs.Laws.{EqualWalks, reduced_string, SameStringSameClass}
 use Rattle.walks.proofs.TurnSigns.{◌⟶◌}
 use Rattle.walks.proofs.Triangles.{corner_turns}
-use Rattle.walks.proofs.Crossings.{Crossed, Goes_on, three_ways, keeps, goes_on_round}
+use Rattle.walks.proofs.Crossings.{Crossed, GoesOn, three_ways, keeps, goes_on_round}
 use Rattle.walks.proofs.RunFans.{reduced_tail, crossed_next}
 use Rattle.walks.proofs.Sleeves.{behind, sleeve_of, exactly_one}
 use Rattle.walks.proofs.WalkParts.{left_within, walk_joins}
@@ -61,7 +61,7 @@ parting f t u (c ∷ x) (d ∷ y) h k = elim (three_ways d.left c.left (k.0 ∙ 
 moves_on : (h : HalfEdgeId) → next h ≡ h → ⊥
 moves_on h e = let q = ap (λ x. x.0) e in omega arith
 
-sides : (d c₁ c₂ : Crossing) → next c₂.left ≡ c₁.left → Goes_on Left d c₁ ⊎ Goes_on Right d c₁ → Goes_on Left d c₂ ⊎ Goes_on Right d c₂ → Goes_on Left d c₁ × Goes_on Right d c₂
+sides : (d c₁ c₂ : Crossing) → next c₂.left ≡ c₁.left → GoesOn Left d c₁ ⊎ GoesOn Right d c₁ → GoesOn Left d c₂ ⊎ GoesOn Right d c₂ → GoesOn Left d c₁ × GoesOn Right d c₂
 sides d c₁ c₂ joint (inl a) (inr b) = (a, b)
 sides d c₁ c₂ joint (inl a) (inl b) = absurd (moves_on c₁.left (a ∙ sym b ∙ joint))
 sides d c₁ c₂ joint (inr a) (inl b) = absurd (moves_on d.entered (sym a ∙ sym joint ∙ b))

@@ -22,7 +22,7 @@ use Rattle.walks.specs.Walks.{Walk, portal_of, portals, Inside}
 use Rattle.walks.proofs.TurnSigns.{◌⟶◌}
 use Rattle.walks.proofs.Triangles.{near, far, inside_near, inside_far}
 use Rattle.walks.proofs.RoundVertices.{Follows, RoundOn, fars, row, round_fan}
-use Rattle.walks.proofs.Crossings.{Crossed, before, after, Goes_on, near_far, after_triangle, before_triangle, leaves_by, end_at, far_end_at, entered_within, before_within, after_within, goes_round, same_end, same_far_end, goes_on_round, kept_round}
+use Rattle.walks.proofs.Crossings.{Crossed, before, after, GoesOn, near_far, after_triangle, before_triangle, leaves_by, end_at, far_end_at, entered_within, before_within, after_within, goes_round, same_end, same_far_end, goes_on_round, kept_round}
 
 -- ---- what a run can be
 run_end : (t : Side) (e : Point) {p : Portal Number} {rs : List Point} → Run quadratics t e p [] rs → rs ≡ ((end t p).point ⟶ e) ∷ []
@@ -110,7 +110,7 @@ module _ (f : Surface) (sound : Sound f) where
         (λ gs on. fan_first quadratic_ring t (v ⟶ spot f (near t g)) (v ⟶ s) (v ⟶ spot f (far t g)) (fars f t v gs) (round_fan f sound t g gs v (before_within f sound t c k) refl on) i.0 i.2)
 
     -- d goes on round the other end: a run begins on this side
-    later_round : (t : Side) (c d : Crossing) (w : List Crossing) → Crossed f c → Crossed f d → Goes_on (other t) c d → Walk f (triangle_of d.entered) w u → Reduced recrossed (d ∷ w) → Round quadratics t (end t (portal_of f c)).point (portal_of f d) (portals f w) e
+    later_round : (t : Side) (c d : Crossing) (w : List Crossing) → Crossed f c → Crossed f d → GoesOn (other t) c d → Walk f (triangle_of d.entered) w u → Reduced recrossed (d ∷ w) → Round quadratics t (end t (portal_of f c)).point (portal_of f d) (portals f w) e
     later_round t c d w k kd on walk r =
         let v : Point = spot f (before t d) in
         let y : spot f (near t (before t d)) ≡ (end t (portal_of f c)).point =

@@ -9,7 +9,7 @@ use Rattle.algebra.specs.declared.Sign.TheVariants.{Minus, Zero, Plus}
 use Rattle.algebra.proofs.Quadratics.{signs_say}
 use Rattle.geometry.specs.declared.Turn.TheVariants.{Left, Right}
 use Rattle.geometry.specs.Plane.{Point, turn_by, doubled_area, turn}
-use Rattle.taut.specs.declared.Side.TheVariants.{Left as on-left}
+use Rattle.taut.specs.declared.Side.TheVariants.{Left as on_left}
 use Rattle.taut.specs.Sleeve.{veer}
 use Rattle.mesh.specs.Surface.{NotRight}
 
@@ -27,10 +27,10 @@ right_sign Plus n h k e = let z : ◌≡◌ {A = ℕ} 0 1 = cc in omega arith
 right_sign Zero n h k e = let z : ◌≡◌ {A = ℕ} 0 1 = cc in omega arith
 right_sign Minus n h k e = k.not_neg h
 
-pub left_turn : (a b c : Point) → turn a b c ≡ Left → Positive (veer quadratics on-left (a ⟶ b) (a ⟶ c))
+pub left_turn : (a b c : Point) → turn a b c ≡ Left → Positive (veer quadratics on_left (a ⟶ b) (a ⟶ c))
 unfolding ◌⊗◌ ◌⇢◌
 left_turn a b c e = left_sign (sign (doubled_area a b c)) (doubled_area a b c) (signs_say (doubled_area a b c)) e
 
-pub not_right : (a b c : Point) → Nn quadratics (veer quadratics on-left (a ⟶ b) (a ⟶ c)) → NotRight (turn a b c)
+pub not_right : (a b c : Point) → Nn quadratics (veer quadratics on_left (a ⟶ b) (a ⟶ c)) → NotRight (turn a b c)
 unfolding ◌⊗◌ ◌⇢◌
 not_right a b c h e = right_sign (sign (doubled_area a b c)) (doubled_area a b c) (signs_say (doubled_area a b c)) h e
