@@ -1,4 +1,7 @@
 // What was answered where a mesh, a point or a layer was handed in, and what should have been.
+ghost use Rattle.std.specs.Prelude.{◌≡◌};
+ghost use Rattle.base.specs.Refusals.{number, place};
+
 use crate::reader::{Case, words};
 use crate::report::Outcome;
 use base::refusals::Refusal;
@@ -23,7 +26,9 @@ impl fmt::Display for Answer {
 }
 
 impl Answer {
-    pub fn refused(refusal: Refusal) -> Answer {
+    pub fn refused(refusal: Refusal) -> Answer
+        ensures { result ≡ Answer.Refused (number refusal) (place refusal) }
+    {
         Answer::Refused {
             number: refusal.number(),
             place: refusal.place(),

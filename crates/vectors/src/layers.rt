@@ -1,4 +1,9 @@
 // Layers over a mesh, as the lines of a case name them from the bottom up.
+ghost use Rattle.std.specs.Prelude.{◌≡◌, []};
+ghost use Rattle.std.specs.Option.{option_map};
+ghost use Rattle.base.specs.Refusals.{refusal};
+ghost use Rattle.vectors.specs.Bars.{first_refused, stands};
+
 use crate::reader::{Case, first_word};
 use base::ids::HalfEdgeId;
 use base::refusals::Refusal;
@@ -88,7 +93,9 @@ impl Layers {
     }
 
     // Sets the bars, in their order.
-    fn set_bars<M: Mesh + Drop>(&self, below: M) -> Result<(), Refusal> {
+    fn set_bars<M: Mesh + Drop>(&self, below: M) -> Result<(), Refusal>
+        ensures { refusal result ≡ first_refused (M.surface below) [] self.now.bars.items }
+    {
         let mut mesh = Barred::new(below);
         for side in self.bars.iter() {
             mesh.bar(*side)?;
@@ -97,7 +104,9 @@ impl Layers {
     }
 
     // Whether the pile stands on this base; `None` if it is too high.
-    pub fn stand<M: Mesh + Drop>(&self, base: M) -> Option<Result<(), Refusal>> {
+    pub fn stand<M: Mesh + Drop>(&self, base: M) -> Option<Result<(), Refusal>>
+        ensures { option_map refusal result ≡ stands self.now.pile self.now.bars.items (M.surface base) }
+    {
         match self.pile {
             Pile::Bare | Pile::Mirror => Some(Ok(())),
             Pile::Bars | Pile::BarsMirror => Some(self.set_bars(base)),

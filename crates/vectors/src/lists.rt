@@ -1,4 +1,12 @@
 // Meshes as the lines of a case write them: lists, and the numbers of a sheet.
+ghost use Rattle.std.specs.Prelude.{◌≡◌, [], ◌∷◌, ◌++◌, All, map, length, slice_index, IfOk, IfNone, IfSome, MatchOption};
+ghost use Rattle.vectors.specs.declared.lists.Kind.{Kind};
+ghost use Rattle.vectors.specs.Kinds.{Names};
+ghost use Rattle.std.specs.Option.{SomeIff};
+ghost use Rattle.base.specs.Refusals.{refusal};
+ghost use Rattle.surfaces.specs.Sheet.{sheet_refusal};
+ghost use Rattle.vectors.specs.Rows.{Is16, Is32, number16, number32, Judged, as_mesh};
+
 use crate::answer::Answer;
 use crate::reader::{Case, words};
 use base::ids::{HalfEdgeId, VertexId};
@@ -15,7 +23,9 @@ pub enum Kind {
 }
 
 impl Kind {
-    pub fn parse(word: &str) -> Option<Kind> {
+    pub fn parse(word: &str) -> Option<Kind>
+        ensures { MatchOption result ((kind : Kind) → ¬ (Names word.now kind)) (λ kind. Names word.now kind) }
+    {
         match word {
             "whole" => Some(Kind::Integer),
             "lattice" => Some(Kind::Quadratic),
@@ -39,7 +49,9 @@ pub struct Lists {
 
 impl Lists {
     // What the check says of them as a mesh of so many triangles.
-    pub fn verdict(&self, triangles: usize) -> Answer {
+    pub fn verdict(&self, triangles: usize) -> Answer
+        ensures { Judged (as_mesh triangles self.now) result }
+    {
         let corners = self.corners.as_slice();
         let across = self.across.as_slice();
         let verdict = match &self.vertices {
@@ -121,7 +133,10 @@ fn integer_row(words: &[&str]) -> Option<IntegerRow> {
     })
 }
 
-pub fn quadratic_row(words: &[&str]) -> Option<QuadraticRow> {
+pub fn quadratic_row(words: &[&str]) -> Option<QuadraticRow>
+    ensures some { IfSome result (λ row. map (λ w. number32 w.now) words.now ≡ row.xp ∷ row.xq ∷ row.yp ∷ row.yq ∷ []) }
+    ensures none { IfNone result (¬ ((length words.now ≡ 4) × All (λ w. Is32 w.now) words.now)) }
+{
     let [xp, xq, yp, yq] = words else {
         return None;
     };
@@ -133,7 +148,9 @@ pub fn quadratic_row(words: &[&str]) -> Option<QuadraticRow> {
     })
 }
 
-fn whole(word: &str) -> Option<i32> {
+fn whole(word: &str) -> Option<i32>
+    ensures { SomeIff result (Is32 word.now) (number32 word.now) }
+{
     word.parse::<i32>().ok()
 }
 
@@ -144,7 +161,10 @@ pub struct TriangleRow {
     pub across: [HalfEdgeId; 3],
 }
 
-pub fn triangle_row(words: &[&str]) -> Option<TriangleRow> {
+pub fn triangle_row(words: &[&str]) -> Option<TriangleRow>
+    ensures some { IfSome result (λ row. map (λ w. number16 w.now) words.now ≡ map (λ v. v.0) row.corners ++ map (λ h. h.0) row.across) }
+    ensures none { IfNone result (¬ ((length words.now ≡ 6) × All (λ w. Is16 w.now) words.now)) }
+{
     let [c0, c1, c2, a0, a1, a2] = words else {
         return None;
     };
@@ -163,13 +183,19 @@ pub fn triangle_row(words: &[&str]) -> Option<TriangleRow> {
 }
 
 // `None` if the words are no three numbers.
-pub fn sheet_of(words: &[&str]) -> Option<Result<PerforatedSheet, Refusal>> {
+pub fn sheet_of(words: &[&str]) -> Option<Result<PerforatedSheet, Refusal>>
+    ensures some { IfSome result (λ made. IfOk made (λ sheet. map (λ w. number16 w.now) words.now ≡ sheet.columns ∷ sheet.rows ∷ sheet.pitch ∷ [])) }
+    ensures refused { IfSome result (λ made. let n = map (λ w. number16 w.now) words.now in refusal made ≡ sheet_refusal (slice_index n 0) (slice_index n 1) (slice_index n 2)) }
+    ensures none { IfNone result (¬ ((length words.now ≡ 3) × All (λ w. Is16 w.now) words.now)) }
+{
     let [columns, rows, pitch] = words else {
         return None;
     };
     Some(PerforatedSheet::new(short(*columns)?, short(*rows)?, short(*pitch)?))
 }
 
-fn short(word: &str) -> Option<u16> {
+fn short(word: &str) -> Option<u16>
+    ensures { SomeIff result (Is16 word.now) (number16 word.now) }
+{
     word.parse::<u16>().ok()
 }

@@ -1,4 +1,7 @@
 // The form that all vector files have: cases of some lines each, and words on a line.
+ghost use Rattle.std.specs.Prelude.{◌≡◌, ◌+◌, ◌<◌, ◌≤◌, codes, min, string_bytes, IfNone, IfOk, IfSome, IsSome, IsSomeAnd, MatchResult, vec_len};
+ghost use Rattle.vectors.specs.Lines.{first_of, rest_of, line_of};
+
 use std::alloc::{AllocError, Global};
 use std::error::Error;
 use std::fmt;
@@ -61,14 +64,18 @@ pub struct Case {
 
 impl Case {
     // A fault in line `i` of the case.
-    pub fn malformed(&self, i: usize, expected: &'static str) -> Malformed {
+    pub fn malformed(&self, i: usize, expected: &'static str) -> Malformed
+        ensures { result.line ≡ min (self.now.first + i) u64.MAX }
+    {
         Malformed {
             line: self.first.saturating_add(i as u64),
             expected,
         }
     }
 
-    pub fn line(&self, i: usize, expected: &'static str) -> Result<&str, Malformed> {
+    pub fn line(&self, i: usize, expected: &'static str) -> Result<&str, Malformed>
+        ensures { MatchResult result (λ text. line_of self.now i ≡ Some text.now) (λ _. line_of self.now i ≡ None) }
+    {
         match self.lines.get(i) {
             Some(line) => Ok(line.as_str()),
             None => Err(self.malformed(i, expected)),
@@ -76,7 +83,9 @@ impl Case {
     }
 
     // What follows the word `mark` in line `i`.
-    pub fn after(&self, i: usize, mark: &'static str) -> Result<&str, Malformed> {
+    pub fn after(&self, i: usize, mark: &'static str) -> Result<&str, Malformed>
+        ensures { IfOk result (λ rest. IsSomeAnd (line_of self.now i) (λ line. (first_of line ≡ mark.now) × (rest_of line ≡ rest.now))) }
+    {
         let (word, rest) = first_word(self.line(i, mark)?);
         if word == mark {
             Ok(rest)
@@ -86,7 +95,9 @@ impl Case {
     }
 
     // Line `i` is the last.
-    pub fn ends_after(&self, i: usize) -> Result<(), Malformed> {
+    pub fn ends_after(&self, i: usize) -> Result<(), Malformed>
+        ensures { MatchResult result (λ _. vec_len self.now.lines ≤ i + 1) (λ _. i + 1 < vec_len self.now.lines) }
+    {
         let end = i.saturating_add(1);
         if self.lines.len() > end {
             Err(self.malformed(end, "done"))
@@ -106,7 +117,9 @@ pub fn words(heap: Global, text: &str) -> Result<Vec<&str>, AllocError> {
 }
 
 // The first word of a line, and what follows it.
-pub fn first_word(line: &str) -> (&str, &str) {
+pub fn first_word(line: &str) -> (&str, &str)
+    ensures { (result.0.now ≡ first_of line.now) × (result.1.now ≡ rest_of line.now) }
+{
     match line.split_once(' ') {
         Some((word, rest)) => (word, rest.trim()),
         None => (line, ""),
@@ -121,7 +134,9 @@ pub struct Reader {
 }
 
 impl Reader {
-    pub fn new() -> Reader {
+    pub fn new() -> Reader
+        ensures { (result.line ≡ 0) × (result.open ≡ None) }
+    {
         Reader {
             line: 0,
             open: None,
@@ -164,7 +179,11 @@ impl Reader {
     }
 
     // Takes the next line, and gives the case that it ends, if it ends one.
-    pub fn read(&mut self, heap: Global, text: String) -> anyhow::Result<Option<Case>> {
+    pub fn read(&mut self, heap: Global, text: String) -> anyhow::Result<Option<Case>>
+        ensures line { self.new.line ≡ min (self.old.line + 1) u64.MAX }
+        ensures ended { IfOk result (λ given. IfSome given (λ case. (self.old.open ≡ Some case) × (self.new.open ≡ None) × (string_bytes text ≡ codes "done"))) }
+        ensures going { IfOk result (λ given. IfNone given (IsSome self.new.open)) }
+    {
         self.line = self.line.saturating_add(1);
         match std::mem::replace(&mut self.open, None) {
             None => {
@@ -181,7 +200,9 @@ impl Reader {
     }
 
     // The file ends here.
-    pub fn finish(&self) -> Result<(), Malformed> {
+    pub fn finish(&self) -> Result<(), Malformed>
+        ensures { MatchResult result (λ _. self.now.open ≡ None) (λ _. IsSome self.now.open) }
+    {
         if self.open.is_some() {
             return Err(Malformed {
                 line: self.line.saturating_add(1),

@@ -1,4 +1,8 @@
 // How cases came out, and how many of each sort.
+ghost use Rattle.std.specs.Prelude.{◌≡◌, ◌≢◌};
+ghost use Rattle.vectors.specs.declared.reader.Sort.{Sort};
+ghost use Rattle.vectors.specs.Tallies.{counted, of_sort};
+
 use crate::reader::Sort;
 use std::io;
 
@@ -24,7 +28,9 @@ impl Tally {
         skipped: 0,
     };
 
-    fn count(&mut self, outcome: &Outcome) {
+    fn count(&mut self, outcome: &Outcome)
+        ensures { self.new ≡ counted outcome.now self.old }
+    {
         match outcome {
             Outcome::Agrees => self.agree = self.agree.saturating_add(1),
             Outcome::Differs {
@@ -57,7 +63,10 @@ pub struct Tallies {
 }
 
 impl Tallies {
-    pub fn new() -> Tallies {
+    // Nothing is counted yet.
+    pub fn new() -> Tallies
+        ensures { (sort : Sort) → of_sort sort result ≡ record { agree = 0; differ = 0; skipped = 0 } }
+    {
         Tallies {
             small: Tally::NONE,
             vet: Tally::NONE,
@@ -67,7 +76,11 @@ impl Tallies {
         }
     }
 
-    pub fn count(&mut self, sort: Sort, outcome: &Outcome) {
+    // Counts a case of a sort; the other sorts keep their tallies.
+    pub fn count(&mut self, sort: Sort, outcome: &Outcome)
+        ensures here { of_sort sort self.new ≡ counted outcome.now (of_sort sort self.old) }
+        ensures others { (other : Sort) → other ≢ sort → of_sort other self.new ≡ of_sort other self.old }
+    {
         match sort {
             Sort::Small => self.small.count(outcome),
             Sort::Vet => self.vet.count(outcome),
