@@ -1,6 +1,6 @@
 // The form that all vector files have: cases of some lines each, and words on a line.
-ghost use Rattle.std.specs.Prelude.{◌≡◌, ◌+◌, ◌<◌, ◌≤◌, codes, min, string_bytes, IfNone, IfOk, IfSome, IsSome, IsSomeAnd, MatchResult, vec_len};
-ghost use Rattle.vectors.specs.Lines.{first_of, rest_of, line_of};
+ghost use Rattle.std.specs.Prelude.{◌≡◌, ◌+◌, ◌<◌, ◌≤◌, codes, min, string_bytes, IfErr, IfNone, IfOk, IfSome, IsSome, IsSomeAnd, MatchResult, vec_len};
+ghost use Rattle.vectors.specs.Lines.{first_of, rest_of, line_of, IsFault, Marked};
 
 use std::alloc::{AllocError, Global};
 use std::error::Error;
@@ -65,7 +65,7 @@ pub struct Case {
 impl Case {
     // A fault in line `i` of the case.
     pub fn malformed(&self, i: usize, expected: &'static str) -> Malformed
-        ensures { result.line ≡ min (self.now.first + i) u64.MAX }
+        ensures { IsFault self.now i expected.now result }
     {
         Malformed {
             line: self.first.saturating_add(i as u64),
@@ -74,7 +74,7 @@ impl Case {
     }
 
     pub fn line(&self, i: usize, expected: &'static str) -> Result<&str, Malformed>
-        ensures { MatchResult result (λ text. line_of self.now i ≡ Some text.now) (λ _. line_of self.now i ≡ None) }
+        ensures { MatchResult result (λ text. line_of self.now i ≡ Some text.now) (λ fault. (line_of self.now i ≡ None) × IsFault self.now i expected.now fault) }
     {
         match self.lines.get(i) {
             Some(line) => Ok(line.as_str()),
@@ -84,7 +84,8 @@ impl Case {
 
     // What follows the word `mark` in line `i`.
     pub fn after(&self, i: usize, mark: &'static str) -> Result<&str, Malformed>
-        ensures { IfOk result (λ rest. IsSomeAnd (line_of self.now i) (λ line. (first_of line ≡ mark.now) × (rest_of line ≡ rest.now))) }
+        ensures marked { IfOk result (λ rest. IsSomeAnd (line_of self.now i) (λ line. (first_of line ≡ mark.now) × (rest_of line ≡ rest.now))) }
+        ensures other { IfErr result (λ fault. ¬ (Marked self.now i mark.now) × IsFault self.now i mark.now fault) }
     {
         let (word, rest) = first_word(self.line(i, mark)?);
         if word == mark {
@@ -96,7 +97,7 @@ impl Case {
 
     // Line `i` is the last.
     pub fn ends_after(&self, i: usize) -> Result<(), Malformed>
-        ensures { MatchResult result (λ _. vec_len self.now.lines ≤ i + 1) (λ _. i + 1 < vec_len self.now.lines) }
+        ensures { MatchResult result (λ _. vec_len self.now.lines ≤ i + 1) (λ fault. (i + 1 < vec_len self.now.lines) × IsFault self.now (i + 1) (codes "done") fault) }
     {
         let end = i.saturating_add(1);
         if self.lines.len() > end {
@@ -201,7 +202,7 @@ impl Reader {
 
     // The file ends here.
     pub fn finish(&self) -> Result<(), Malformed>
-        ensures { MatchResult result (λ _. self.now.open ≡ None) (λ _. IsSome self.now.open) }
+        ensures { MatchResult result (λ _. self.now.open ≡ None) (λ fault. IsSome self.now.open × (fault.line ≡ min (self.now.line + 1) u64.MAX) × (fault.expected.now ≡ codes "done")) }
     {
         if self.open.is_some() {
             return Err(Malformed {
