@@ -7,3 +7,4 @@ pub mod Adjoined
 pub mod Quadratics
 pub mod Magnitudes
 pub mod NumberOrder
+pub mod Compared

@@ -26,7 +26,7 @@ at_most_add {a} {b} {c} {d} h k = record { gap = le_add K {a = a} {b = b} {c = c
 pub at_most_mul : (k : Number) {a b : Number} → Nn quadratics k → AtMost a b → AtMost (k ⊛ a) (k ⊛ b)
 at_most_mul k {a} {b} n h = record { gap = le_mul K {w = k} {a = a} {b = b} n h.gap }
 
-turned : (a b : Number) → minus (a ⊖ b) ≡ b ⊖ a
+pub turned : (a b : Number) → minus (a ⊖ b) ≡ b ⊖ a
 turned a b = ring (base K) 2 (λ a b. :- (a :- b) := b :- a) refl a b
 
 pub at_most_of_minus : (a b : Number) → Positive (minus (a ⊖ b)) → AtMost a b

@@ -3,4 +3,3 @@ pub mod Plane
 pub mod Number
 pub mod Bounds
 pub mod Order
-pub mod Values

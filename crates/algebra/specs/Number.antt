@@ -4,12 +4,16 @@
 -- Positive      which numbers are positive; all others but 0 are negative
 -- above         the same as a test; is_zero tests for 0
 -- sign          minus, zero or plus
+-- magnitude     a number without its sign
+-- compare       less, equal or greater, by the sign of the difference
 -- Signed        what a sign says of a number
 -- quadratics    the numbers with their operations and order, for the abstract laws
 -- OrderedRing   that they are an ordered commutative ring
 -- SignsSay      that the sign is the right one for every number
 -- CloseCalls    signs of numbers near 0, at which a decimal for √2 goes wrong
 use Rattle.std.specs.Prelude.{◌≡◌, zero as nought, suc, Bool, true, false, cond, ◌&&◌, ◌||◌, ℤ, pos, negsuc, ◌+ℤ◌, ◌*ℤ◌, neg_ℤ, ◌≤ℤ◌, ◌<ℤ◌, int_lt}
+use Rattle.std.specs.declared.cmp.Ordering.{Ordering}
+use Rattle.std.specs.declared.cmp.Ordering.TheVariants.{Less, Equal, Greater}
 use Rattle.algebra.specs.declared.Sign.{Sign}
 use Rattle.algebra.specs.declared.Sign.TheVariants.{Minus, Zero, Plus}
 use Rattle.algebra.specs.Arithmetic.{Ops, Arithmetic, OrderedRingLaws}
@@ -70,6 +74,22 @@ is_zero a = is_zero_part a.p && is_zero_part a.q
 -- every number that is neither zero nor positive is negative
 abbrev pub sign : Number → Sign
 sign a = cond (is_zero a) Zero (cond (above a) Plus Minus)
+
+abbrev pub signless : Sign → Number → Number
+signless Minus a = minus a
+signless Zero a = a
+signless Plus a = a
+
+abbrev pub magnitude : Number → Number
+magnitude a = signless (sign a) a
+
+abbrev pub ordering : Sign → Ordering
+ordering Minus = Less
+ordering Zero = Equal
+ordering Plus = Greater
+
+abbrev pub compare : Number → Number → Ordering
+compare a b = ordering (sign (a ⊖ b))
 
 abbrev pub Signed : Sign → Number → Type 0
 Signed Plus a = Positive a

@@ -2,23 +2,23 @@
 ghost use Rattle.std.specs.Prelude.{◌≡◌, ◌<◌, ◌≤◌, ◌⊎◌};
 ghost use Rattle.base.specs.Ids.{boundary, leads, side, triangle_of, index, next, previous, mirror_side, mirror_corner};
 
-#[derive(Clone, Copy, PartialEq, Eq)]
+#[derive(Clone, Copy, PartialEq, Eq, Debug)]
 pub struct TriangleId(pub u16);
 
-#[derive(Clone, Copy, PartialEq, Eq)]
+#[derive(Clone, Copy, PartialEq, Eq, Debug)]
 pub struct VertexId(pub u16);
 
 // Half-edge k of triangle t has the number 3t + k: it runs from corner k to the next corner, and names corner k too.
-#[derive(Clone, Copy, PartialEq, Eq)]
+#[derive(Clone, Copy, Default, PartialEq, Eq, Debug)]
 pub struct HalfEdgeId(pub u16);
-
-// Written where there is no half-edge. As a code it would be the first of a triangle whose other two do not fit.
-const BOUNDARY: u16 = 65_535;
 
 // The number of triangles whose three codes fit.
 const TRIANGLES: u16 = 21_845;
 
 impl HalfEdgeId {
+    // Written where there is no half-edge. As a code it would be the first of a triangle whose other two do not fit.
+    pub const BOUNDARY: HalfEdgeId = HalfEdgeId(65_535);
+
     // Half-edge k of triangle t, or boundary where there is no such code.
     pub fn of(t: TriangleId, k: u8) -> HalfEdgeId
         ensures there { t.0 < 21845 → k < 3 → result ≡ side t k }
@@ -27,7 +27,7 @@ impl HalfEdgeId {
         if t.0 < TRIANGLES && k < 3 {
             HalfEdgeId(3 * t.0 + k as u16)
         } else {
-            HalfEdgeId(BOUNDARY)
+            HalfEdgeId::BOUNDARY
         }
     }
 
@@ -41,7 +41,11 @@ impl HalfEdgeId {
     pub fn leads(self) -> Option<HalfEdgeId>
         ensures { result ≡ leads self }
     {
-        if self.0 == BOUNDARY { None } else { Some(self) }
+        if self == HalfEdgeId::BOUNDARY {
+            None
+        } else {
+            Some(self)
+        }
     }
 
     // Which of the three half-edges of its triangle it is.
@@ -63,7 +67,7 @@ impl HalfEdgeId {
         ensures turned { self.0 < 65535 → result ≡ next self }
         ensures nowhere { 65535 ≤ self.0 → result ≡ boundary }
     {
-        if self.0 == BOUNDARY {
+        if self == HalfEdgeId::BOUNDARY {
             self
         } else if self.0 % 3 == 2 {
             HalfEdgeId(self.0 - 2)
@@ -77,7 +81,7 @@ impl HalfEdgeId {
         ensures turned { self.0 < 65535 → result ≡ previous self }
         ensures nowhere { 65535 ≤ self.0 → result ≡ boundary }
     {
-        if self.0 == BOUNDARY {
+        if self == HalfEdgeId::BOUNDARY {
             self
         } else if self.0 % 3 == 0 {
             HalfEdgeId(self.0 + 2)
@@ -92,7 +96,7 @@ impl HalfEdgeId {
         ensures nowhere { 65535 ≤ self.0 → result ≡ boundary }
     {
         match self.0 % 3 {
-            0 if self.0 < BOUNDARY => HalfEdgeId(self.0 + 2),
+            0 if self != HalfEdgeId::BOUNDARY => HalfEdgeId(self.0 + 2),
             2 => HalfEdgeId(self.0 - 2),
             _ => self,
         }

@@ -3,15 +3,16 @@ ghost use Rattle.std.specs.Prelude.{◌≡◌};
 ghost use Rattle.base.specs.Refusals.{number, place};
 
 use crate::ids::{HalfEdgeId, TriangleId, VertexId};
+use std::error::Error;
 use std::fmt;
 
-#[derive(Clone, Copy)]
+#[derive(Clone, Copy, PartialEq, Eq, Debug)]
 pub enum Axis {
     X,
     Y,
 }
 
-#[derive(Clone, Copy)]
+#[derive(Clone, Copy, PartialEq, Eq, Debug)]
 pub enum SheetParameter {
     Columns,
     Rows,
@@ -19,7 +20,7 @@ pub enum SheetParameter {
 }
 
 // After a refusal everything is as it was before the call.
-#[derive(Clone, Copy)]
+#[derive(Clone, Copy, PartialEq, Eq, Debug)]
 pub enum Refusal {
     // The supplier of the mesh.
     MeshLimits,
@@ -194,6 +195,7 @@ impl Refusal {
     }
 }
 
+// By hand: number and place are those of the one definition, and no text repeats them.
 impl fmt::Display for Refusal {
     fn fmt<W: fmt::Write>(&self, f: &mut fmt::Formatter<W>) -> fmt::Result {
         let number = self.number();
@@ -211,3 +213,5 @@ impl fmt::Display for Refusal {
         }
     }
 }
+
+impl Error for Refusal {}

@@ -4,11 +4,20 @@
 
 #[cfg(test)]
 mod tests {
-    use algebra::{Quadratic, Sign};
+    use algebra::Sign;
+    use base::ids::{HalfEdgeId, VertexId};
+    use base::refusals::Refusal;
+    use coordinates::Quadratic;
+    use described::layers::{Layers, Pile, SecondMirror};
+    use described::lists::{Described, OnMesh};
+    use described::rows::{Kind, PointRow, TriangleRow};
+    use gauge::Length;
     use gauge::rows::length_of_row;
     use gauge::supplied::{L1, Maximum, Octagon};
     use geometry::kinds::PointKind;
     use geometry::{IntegerPoint, IntegerRow, QuadraticPoint, QuadraticRow, Turn};
+    use meshes::Mesh;
+    use std::alloc::{AllocError, Global};
     use std::test::Fail;
 
     fn sign_is(p: i64, q: i64, sign: Sign) -> bool {
@@ -87,6 +96,96 @@ mod tests {
         assert!(rt; length_of_row(&Maximum, &row).p == 32);
         let octagon = length_of_row(&Octagon, &row);
         assert!(rt; octagon.p == 22 && octagon.q == 18);
+        Ok(())
+    }
+
+    const EDGE: HalfEdgeId = HalfEdgeId::BOUNDARY;
+
+    // A square cut into two triangles, whose one portal has the sides 2 and 3.
+    fn square(heap: Global) -> Result<Described, AllocError> {
+        let mut mesh = Described::new(heap, Kind::Integer);
+        for (x, y) in [(0, 0), (4, 0), (4, 4), (0, 4)] {
+            mesh.vertices.push(PointRow::Integer(IntegerRow { x, y }))?;
+        }
+        mesh.add_triangle(TriangleRow {
+            corners: [VertexId(0), VertexId(1), VertexId(2)],
+            across: [EDGE, EDGE, HalfEdgeId(3)],
+        })?;
+        mesh.add_triangle(TriangleRow {
+            corners: [VertexId(0), VertexId(2), VertexId(3)],
+            across: [HalfEdgeId(2), EDGE, EDGE],
+        })?;
+        Ok(mesh)
+    }
+
+    #[derive(Clone, Copy)]
+    struct OneBarMore<'a> {
+        layers: &'a Layers,
+        side: HalfEdgeId,
+    }
+
+    impl<'a> OnMesh for OneBarMore<'a> {
+        type Answer = Result<(), Refusal>;
+
+        fn on<M: Mesh + Drop>(self, mesh: M) -> Result<(), Refusal> {
+            self.layers.try_bar(mesh, self.side)
+        }
+    }
+
+    #[test]
+    fn described_lists(rt: HostRuntime) -> Result<(), Fail> {
+        let mut mesh = square(rt.alloc())?;
+        assert!(rt; mesh.vertices.kind() == Kind::Integer);
+        assert!(rt; mesh.vertices.count() == 4 && mesh.triangles == 2);
+        assert!(rt; mesh.check() == Ok(()));
+        let copy = mesh.clone()?;
+        assert!(rt; copy.vertices.count() == 4 && copy.check() == Ok(()));
+        mesh.vertices
+            .push(PointRow::Integer(IntegerRow { x: 10001, y: 0 }))?;
+        assert!(rt;
+            mesh.check()
+                == Err(Refusal::VertexRange {
+                    vertex: VertexId(4)
+                })
+        );
+        Ok(())
+    }
+
+    #[test]
+    fn layers_over_described_lists(rt: HostRuntime) -> Result<(), Fail> {
+        let mesh = square(rt.alloc())?;
+        let mut layers = Layers::none(rt.alloc());
+        assert!(rt; layers.put_mirror() == Ok(()));
+        assert!(rt; layers.put_mirror() == Err(SecondMirror));
+        let side = HalfEdgeId(0);
+        assert!(rt;
+            mesh.on_mesh(OneBarMore {
+                layers: &layers,
+                side
+            }) == Ok(())
+        );
+        layers.put_bar(side)?;
+        assert!(rt; layers.pile == Pile::MirrorBars);
+        assert!(rt;
+            mesh.on_mesh(OneBarMore {
+                layers: &layers,
+                side
+            }) == Err(Refusal::NoPortal { side })
+        );
+        Ok(())
+    }
+
+    #[test]
+    fn texts(rt: HostRuntime) -> Result<(), Fail> {
+        let number = Quadratic::new(3, -2).ok_or("a number is refused")?;
+        let text = format!(in rt.alloc(); "{number}")?;
+        assert!(rt; text.as_str() == "3 - 2√2");
+        let root = Length { p: 0, q: 1 };
+        let text = format!(in rt.alloc(); "{root}")?;
+        assert!(rt; text.as_str() == "1√2");
+        let turn = Turn::Straight;
+        let text = format!(in rt.alloc(); "{turn}")?;
+        assert!(rt; text.as_str() == "straight");
         Ok(())
     }
 }

@@ -1,30 +1,40 @@
-// Coordinates of points and their differences. The size stands in the type, so that no operation can overflow and none asks anything of its caller.
+// Exact numbers p + q√2 of the sizes that points and measures have. The size stands in the type, so that no operation can overflow and none asks anything of its caller.
 #![tactic(auto)]
 
+ghost use Rattle.std.specs.Prelude.{◌<◌, ◌^◌};
 ghost use Rattle.algebra.specs.Bounds.{Within};
 
+pub mod numbers;
 pub mod offsets;
+pub mod order;
 pub mod products;
+pub mod text;
 
-// A coordinate of a point: both parts from -10,000 to 10,000.
-#[derive(Clone, Copy)]
-pub struct Coordinate {
-    pub p: i32,
-    pub q: i32,
-    ghost p_within: { Within 10000 p },
-    ghost q_within: { Within 10000 q },
+// A number p + q√2 with both parts from -MOST to MOST; 64 bits hold the opposites of these too.
+#[derive(Debug, Clone, Copy, PartialEq, Eq)]
+pub struct Surd<const MOST: u64> {
+    pub p: i64,
+    pub q: i64,
+    ghost most_fits: { MOST < 2 ^ 63 },
+    ghost p_within: { Within MOST p },
+    ghost q_within: { Within MOST q },
 }
 
-// A part of an offset, from -20,000 to 20,000.
-#[derive(Clone, Copy)]
-pub struct Part {
-    pub n: i32,
-    ghost within: { Within 20000 n },
-}
+// A coordinate of a point.
+pub type Coordinate = Surd<10_000>;
 
 // A difference of two coordinates.
-#[derive(Clone, Copy)]
-pub struct Offset {
-    pub p: Part,
-    pub q: Part,
+pub type Offset = Surd<20_000>;
+
+// A product of two offsets.
+pub type Area = Surd<1_200_000_000>;
+
+// Room for the measures of everything that a mesh holds.
+pub type Quadratic = Surd<1_000_000_000_000_000_000>;
+
+// The differences in x and y between two points.
+#[derive(Debug, Clone, Copy, PartialEq, Eq)]
+pub struct Step {
+    pub dx: Offset,
+    pub dy: Offset,
 }

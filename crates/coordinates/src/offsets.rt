@@ -1,49 +1,20 @@
-// Coordinates and their differences.
+// Coordinates, their differences, and what is measured from these.
 ghost use Rattle.std.specs.Prelude.{◌≡◌};
-ghost use Rattle.algebra.specs.Number.{number, minus, sign, ◌⊕◌, ◌⊖◌};
-ghost use Rattle.algebra.specs.Values.{value};
-ghost use Rattle.coordinates.specs.Sizes.{Placed, magnitude, coordinate_value, offset_value};
+ghost use Rattle.algebra.specs.Number.{number, ◌⊕◌, ◌⊖◌};
+ghost use Rattle.coordinates.specs.Values.{value};
 
-use crate::{Coordinate, Offset, Part};
-use algebra::signs::sign_of;
-use algebra::{Quadratic, Sign};
+use crate::{Coordinate, Offset, Quadratic};
+use std::ops::{Add, Sub};
 
-// The largest part of a coordinate, and the opposite of the smallest.
-const LIMIT: i32 = 10_000;
+impl Sub for Coordinate {
+    type Output = Offset;
 
-impl Coordinate {
-    // p + q√2, where both parts are in range.
-    pub fn new(p: i32, q: i32) -> Option<Coordinate>
-        ensures { Placed result p q }
-    {
-        if p < -LIMIT || p > LIMIT {
-            return None;
-        }
-        if q < -LIMIT || q > LIMIT {
-            return None;
-        }
-        Some(Coordinate { p, q })
-    }
+    ghost sub_gives = { λ a b r. value r ≡ value a ⊖ value b };
 
-    pub fn negated(self) -> Coordinate
-        ensures { coordinate_value result ≡ minus (coordinate_value self) }
-    {
-        Coordinate {
-            p: -self.p,
-            q: -self.q,
-        }
-    }
-
-    pub fn minus(self, other: Coordinate) -> Offset
-        ensures { offset_value result ≡ coordinate_value self ⊖ coordinate_value other }
-    {
+    fn sub(self, other: Coordinate) -> Offset {
         Offset {
-            p: Part {
-                n: self.p - other.p,
-            },
-            q: Part {
-                n: self.q - other.q,
-            },
+            p: self.p - other.p,
+            q: self.q - other.q,
         }
     }
 }
@@ -51,53 +22,36 @@ impl Coordinate {
 impl Offset {
     // A small number, as in a linear form.
     pub fn small(p: i8, q: i8) -> Offset
-        ensures { offset_value result ≡ number p q }
+        ensures { value result ≡ number p q }
     {
         Offset {
-            p: Part { n: p as i32 },
-            q: Part { n: q as i32 },
+            p: p.into(),
+            q: q.into(),
         }
     }
+}
 
-    fn negated(self) -> Offset
-        ensures { offset_value result ≡ minus (offset_value self) }
-    {
-        Offset {
-            p: Part { n: -self.p.n },
-            q: Part { n: -self.q.n },
-        }
-    }
+// For offsets and for areas apart: a sum of any size would have to ask that it fits.
+impl Add for Offset {
+    type Output = Quadratic;
 
-    fn sign(self) -> Sign
-        ensures { result ≡ sign (offset_value self) }
-    {
-        sign_of(self.p.n as i64, self.q.n as i64)
-    }
+    ghost add_gives = { λ a b r. value r ≡ value a ⊕ value b };
 
-    pub fn magnitude(self) -> Offset
-        ensures { offset_value result ≡ magnitude (offset_value self) }
-    {
-        match self.sign() {
-            Sign::Minus => self.negated(),
-            Sign::Zero | Sign::Plus => self,
-        }
-    }
-
-    pub fn widened(self) -> Quadratic
-        ensures { value result ≡ offset_value self }
-    {
+    fn add(self, other: Offset) -> Quadratic {
         Quadratic {
-            p: self.p.n as i64,
-            q: self.q.n as i64,
+            p: self.p + other.p,
+            q: self.q + other.q,
         }
     }
+}
 
-    pub fn plus(self, other: Offset) -> Quadratic
-        ensures { value result ≡ offset_value self ⊕ offset_value other }
-    {
+impl From<Offset> for Quadratic {
+    ghost from_gives = { λ a r. value r ≡ value a };
+
+    fn from(offset: Offset) -> Quadratic {
         Quadratic {
-            p: self.p.n as i64 + other.p.n as i64,
-            q: self.q.n as i64 + other.q.n as i64,
+            p: offset.p,
+            q: offset.q,
         }
     }
 }

@@ -1,70 +1,78 @@
 // The products that turns and linear forms need.
-ghost use Rattle.std.specs.Prelude.{◌≡◌, ℤ, ◌*ℤ◌};
+ghost use Rattle.std.specs.Prelude.{◌≡◌, ◌*ℤ◌};
 ghost use Rattle.algebra.specs.Bounds.{Within};
-ghost use Rattle.algebra.specs.Number.{number, ◌⊕◌, ◌⊖◌, ◌⊛◌};
-ghost use Rattle.algebra.specs.Values.{value};
-ghost use Rattle.coordinates.specs.Sizes.{offset_value};
+ghost use Rattle.algebra.specs.Number.{◌⊕◌, ◌⊖◌, ◌⊛◌};
+ghost use Rattle.coordinates.specs.Values.{value};
 
-use crate::{Offset, Part};
-use algebra::Quadratic;
+use crate::{Area, Offset, Quadratic, Step};
+use std::ops::{Add, Mul, Sub};
 
-// A product of two parts.
-#[derive(Clone, Copy)]
-struct Product {
-    n: i64,
-    ghost within: { Within 400000000 n },
+// A product of two parts of offsets: small enough that three can be added.
+fn product_of(a: i64, b: i64) -> i64
+    requires a_within { Within 20000 a }
+    requires b_within { Within 20000 b }
+    ensures product { result ≡ a *ℤ b }
+    ensures within { Within 400000000 result }
+{
+    a * b
 }
 
-fn product_of(a: Part, b: Part) -> Product
-    ensures { result.n ≡ a.n *ℤ b.n }
-{
-    Product {
-        n: a.n as i64 * b.n as i64,
+impl Mul for Offset {
+    type Output = Area;
+
+    ghost mul_gives = { λ a b r. value r ≡ value a ⊛ value b };
+
+    fn mul(self, other: Offset) -> Area {
+        let pp = product_of(self.p, other.p);
+        let qq = product_of(self.q, other.q);
+        let pq = product_of(self.p, other.q);
+        let qp = product_of(self.q, other.p);
+        Area {
+            p: pp + (qq + qq),
+            q: pq + qp,
+        }
     }
 }
 
-// A product of two offsets: small enough that two can be added.
-#[derive(Clone, Copy)]
-struct Area {
-    p: i64,
-    q: i64,
-    ghost p_within: { Within 1200000000 p },
-    ghost q_within: { Within 800000000 q },
-}
+// Apart from the sum of offsets: a sum of any size would have to ask that it fits.
+impl Add for Area {
+    type Output = Quadratic;
 
-fn times(a: Offset, b: Offset) -> Area
-    ensures { number result.p result.q ≡ offset_value a ⊛ offset_value b }
-{
-    let pp = product_of(a.p, b.p);
-    let qq = product_of(a.q, b.q);
-    let pq = product_of(a.p, b.q);
-    let qp = product_of(a.q, b.p);
-    Area {
-        p: pp.n + (qq.n + qq.n),
-        q: pq.n + qp.n,
+    ghost add_gives = { λ a b r. value r ≡ value a ⊕ value b };
+
+    fn add(self, other: Area) -> Quadratic {
+        Quadratic {
+            p: self.p + other.p,
+            q: self.q + other.q,
+        }
     }
 }
 
-// The cross product of the steps (ux, uy) and (vx, vy).
-pub fn cross(ux: Offset, uy: Offset, vx: Offset, vy: Offset) -> Quadratic
-    ensures { value result ≡ offset_value ux ⊛ offset_value vy ⊖ offset_value uy ⊛ offset_value vx }
-{
-    let left = times(ux, vy);
-    let right = times(uy, vx);
-    Quadratic {
-        p: left.p - right.p,
-        q: left.q - right.q,
+impl Sub for Area {
+    type Output = Quadratic;
+
+    ghost sub_gives = { λ a b r. value r ≡ value a ⊖ value b };
+
+    fn sub(self, other: Area) -> Quadratic {
+        Quadratic {
+            p: self.p - other.p,
+            q: self.q - other.q,
+        }
     }
 }
 
-// The value of the linear form (f, h) at the step (dx, dy).
-pub fn dot(f: Offset, h: Offset, dx: Offset, dy: Offset) -> Quadratic
-    ensures { value result ≡ offset_value f ⊛ offset_value dx ⊕ offset_value h ⊛ offset_value dy }
-{
-    let along = times(f, dx);
-    let up = times(h, dy);
-    Quadratic {
-        p: along.p + up.p,
-        q: along.q + up.q,
+impl Step {
+    // The cross product: positive where the other step points to the left of this one.
+    pub fn cross(self, other: Step) -> Quadratic
+        ensures { value result ≡ value self.dx ⊛ value other.dy ⊖ value self.dy ⊛ value other.dx }
+    {
+        self.dx * other.dy - self.dy * other.dx
+    }
+
+    // The value of the linear form (f, h) at the step.
+    pub fn dot(self, f: Offset, h: Offset) -> Quadratic
+        ensures { value result ≡ value f ⊛ value self.dx ⊕ value h ⊛ value self.dy }
+    {
+        f * self.dx + h * self.dy
     }
 }

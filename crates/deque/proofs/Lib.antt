@@ -1,3 +1,2 @@
 pub mod RingOfPlaces
 pub mod ListEquations
-pub mod Popping

@@ -1,14 +1,13 @@
 -- What each call does to a list, as an equation between its contents before and after. `list` is the list as it is read over
 -- the memory, so that the equations hold too where the indices do not fit.
-use Rattle.std.proofs.Common.{◌≡◌, ℕ, ◌+◌, ◌-◌, ◌<◌, ◌≤◌, List, [], ◌∷◌, ◌++◌, length, get_or, set, Some, None, sym, refl, ap, ◌∙◌, subst, inl, arith, length-set}
+use Rattle.std.proofs.Common.{◌≡◌, ℕ, ◌+◌, ◌-◌, ◌<◌, ◌≤◌, List, [], ◌∷◌, ◌++◌, length, get_or, set, Some, sym, refl, ap, ◌∙◌, subst, inl, arith, length-set}
 use Rattle.std.specs.List.{slice_get}
 use Rattle.std.proofs.lemmas.List.{nil_from_length}
-use Rattle.std.proofs.lemmas.Option.{slice_get-get_or, slice_get_past}
-use Rattle.std.proofs.lemmas.Bool.{cond-true, cond-false, and_from, le-leb, lt-ltb, le-ltb}
+use Rattle.std.proofs.lemmas.Option.{slice_get-get_or}
+use Rattle.std.proofs.lemmas.Bool.{cond-true, and_from, le-leb}
 use Rattle.std.proofs.lemmas.Bool.Decides.{nat_tests}
-use Rattle.base.specs.declared.refusals.Refusal.TheVariants.{ListFull}
 use Rattle.deque.specs.declared.Deque.{Deque}
-use Rattle.deque.specs.Contents.{head_over, len_over, Over, ring, contents, round, full_refusal}
+use Rattle.deque.specs.Contents.{head_over, len_over, Over, ring, contents, round}
 use Rattle.deque.proofs.RingOfPlaces.{At, Next, round_at, length_ring, ring_at, ring_last, ring_first, ring_write_last, ring_write_first}
 
 module _ {X : Type 0} where
@@ -27,31 +26,16 @@ module _ {X : Type 0} where
   contents_none d s e = contents_at d s (head_over d (length s)) 0 refl (grind (arith, nat_tests))
 
   module _ (d : Deque X) (s : List X) (list : Deque X) (over : Over d (length s) list) where
-    contents_read : contents d s ≡ ring s list.head list.len
+    pub contents_read : contents d s ≡ ring s list.head list.len
     contents_read = contents_at d s _ _ over.head over.len
-
-    pub read_length : list.len ≡ length (contents d s)
-    read_length = sym (ap length contents_read ∙ length_ring s list.head list.len over.len_within)
-
-    pub read_none : list.len ≡ 0 → contents d s ≡ []
-    read_none e = nil_from_length _ (sym read_length ∙ e)
-
-    pub read_past : (k : ℕ) → list.len ≤ k → None ≡ slice_get (contents d s) k
-    read_past k past = sym (slice_get_past (contents d s) k (omega (arith, read_length)))
 
     pub read_element : (k i : ℕ) (x : X) → k < list.len → i ≡ round list.head k (length s) → x ≡ get_or s i x → Some x ≡ slice_get (contents d s) k
     read_element k i x lt at read =
         let here : At (length s) list.head k i = subst (At (length s) list.head k) (sym at) (round_at (length s) list.head k) in
-        sym (slice_get-get_or (contents d s) k x (omega (arith, read_length))
-        ∙ ap Some (ap (λ l. get_or l k x) contents_read ∙ ring_at s list.head list.len k i x over.head_within lt here ∙ sym read))
-
-    pub push_fits : list.len < length s → None ≡ full_refusal (contents d s) (length s)
-    push_fits lt = sym (cond-true _ _ _ (lt-ltb _ _ (subst (λ n. n < length s) read_length lt)))
-
-    pub push_lacks : list.len ≡ length s → Some (ListFull (length s)) ≡ full_refusal (contents d s) (length s)
-    push_lacks e =
-        let full : length s ≤ length (contents d s) = omega (arith, read_length) in
-        sym (cond-false _ _ _ (le-ltb _ _ full))
+        let long = length_ring s list.head list.len over.len_within in
+        sym (ap (λ l. slice_get l k) contents_read
+        ∙ slice_get-get_or (ring s list.head list.len) k x (omega arith)
+        ∙ ap Some (ring_at s list.head list.len k i x over.head_within lt here ∙ sym read))
 
     module _ (after : Deque X) where
       pub pushed_back : (i : ℕ) (x : X) → list.len < length s → i ≡ round list.head list.len (length s) → after.head ≡ list.head → after.len ≡ list.len + 1
@@ -107,3 +91,6 @@ module _ {X : Type 0} where
   pub length_contents : (d : Deque X) (s : List X) → length (contents d s) ≤ length s
   unfolding contents
   length_contents d s = omega (arith, length_ring s (head_over d (length s)) (len_over d (length s)) (len_within d (length s)), len_within d (length s))
+
+-- what each call on a list is proved from
+pub ruleset list_equations = (nat_tests, nil_from_length, contents_none, contents_read, length_ring, read_element, pushed_back, pushed_front, popped_back, popped_front, length_contents)

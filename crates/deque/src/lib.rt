@@ -4,7 +4,7 @@
 ghost use Rattle.std.specs.Prelude.{◌≡◌, ◌+◌, ◌-◌, ◌<◌, ◌≤◌, List, [], ◌∷◌, ◌++◌, length, MatchBool, MatchOption, MatchResult, ◌≢◌};
 ghost use Rattle.std.specs.List.{slice_get};
 ghost use Rattle.base.specs.Refusals.{refusal};
-ghost use Rattle.deque.specs.Contents.{Over, contents, round, full_refusal};
+ghost use Rattle.deque.specs.Contents.{Over, contents, ring, round, full_refusal};
 
 use base::refusals::Refusal;
 use std::marker::PhantomData;
@@ -18,15 +18,19 @@ pub struct Deque<T> {
     elements: PhantomData<T>,
 }
 
-// The place of element `k`.
-fn place(head: usize, k: usize, size: usize) -> usize
-    requires { (head ≤ size) × (k < size) }
-    ensures { result ≡ round head k size }
-{
-    let rest = size - head;
-    if k < rest { head + k } else { k - rest }
+impl<T: Copy> Default for Deque<T> {
+    ghost use Rattle.std.specs.Prelude.{◌≡◌, List, []};
+    ghost use Rattle.deque.specs.Contents.{contents};
+
+    ghost is_default = { λ d. (slots : List T) → contents d slots ≡ [] };
+
+    fn default() -> Deque<T> {
+        Self::new()
+    }
 }
 
+// Front and back have calls of their own, as the library's double-ended list has them.
+#[tactic(auto, using(crate::proofs::ListEquations::list_equations))]
 impl<T: Copy> Deque<T> {
     pub fn new() -> Deque<T>
         ensures empty { (slots : List T) → contents result slots ≡ [] }
@@ -39,15 +43,25 @@ impl<T: Copy> Deque<T> {
         }
     }
 
-    // The list as it stands over so many places: indices that do not fit them mean nothing there.
-    fn read_over(self, size: usize) -> Deque<T>
-        ensures { Over self size result }
+    // The list as it stands over the memory: indices that do not fit it mean nothing there.
+    fn read_over(self, slots: &[T]) -> Deque<T>
+        ensures fits { Over self (length slots.now) result }
+        ensures same { contents self slots.now ≡ ring slots.now result.head result.len }
     {
-        if self.head <= size && self.len <= size {
+        if self.head <= slots.len() && self.len <= slots.len() {
             self
         } else {
             Deque::new()
         }
+    }
+
+    // The place of element `k`. The index is not added to the head, since their sum may not fit.
+    fn place(self, k: usize, size: usize) -> usize
+        requires { (self.head ≤ size) × (k < size) }
+        ensures { result ≡ round self.head k size }
+    {
+        let rest = size - self.head;
+        if k < rest { self.head + k } else { k - rest }
     }
 
     fn is_full(self, size: usize) -> bool
@@ -59,18 +73,18 @@ impl<T: Copy> Deque<T> {
     pub fn len(&self, slots: &[T]) -> usize
         ensures { result ≡ length (contents self.now slots.now) }
     {
-        self.read_over(slots.len()).len
+        self.read_over(slots).len
     }
 
     // Element `k`, counted from the front.
     pub fn get(&self, slots: &[T], k: usize) -> Option<T>
         ensures { result ≡ slice_get (contents self.now slots.now) k }
     {
-        let list = self.read_over(slots.len());
+        let list = self.read_over(slots);
         if k >= list.len {
             return None;
         }
-        let i = place(list.head, k, slots.len());
+        let i = list.place(k, slots.len());
         Some(slots[i])
     }
 
@@ -83,11 +97,11 @@ impl<T: Copy> Deque<T> {
         ensures few { length (contents self.new slots.new) ≤ length slots.new }
     {
         let size = slots.len();
-        let list = self.read_over(size);
+        let list = self.read_over(slots);
         if list.is_full(size) {
             return Err(Refusal::ListFull { size });
         }
-        let i = place(list.head, list.len, size);
+        let i = list.place(list.len, size);
         slots[i] = element;
         self.head = list.head;
         self.len = list.len + 1;
@@ -103,15 +117,11 @@ impl<T: Copy> Deque<T> {
         ensures few { length (contents self.new slots.new) ≤ length slots.new }
     {
         let size = slots.len();
-        let list = self.read_over(size);
+        let list = self.read_over(slots);
         if list.is_full(size) {
             return Err(Refusal::ListFull { size });
         }
-        let i = if list.head == 0 {
-            size - 1
-        } else {
-            list.head - 1
-        };
+        let i = list.head.checked_sub(1).unwrap_or(size - 1);
         slots[i] = element;
         self.head = i;
         self.len = list.len + 1;
@@ -123,13 +133,11 @@ impl<T: Copy> Deque<T> {
             ((contents self.old slots.now ≡ []) × (self.new ≡ self.old))
             (λ x. contents self.old slots.now ≡ contents self.new slots.now ++ x ∷ []) }
     {
-        let list = self.read_over(slots.len());
-        if list.len == 0 {
-            return None;
-        }
-        let i = place(list.head, list.len - 1, slots.len());
+        let list = self.read_over(slots);
+        let len = list.len.checked_sub(1)?;
+        let i = list.place(len, slots.len());
         self.head = list.head;
-        self.len = list.len - 1;
+        self.len = len;
         Some(slots[i])
     }
 
@@ -138,13 +146,11 @@ impl<T: Copy> Deque<T> {
             ((contents self.old slots.now ≡ []) × (self.new ≡ self.old))
             (λ x. contents self.old slots.now ≡ x ∷ contents self.new slots.now) }
     {
-        let list = self.read_over(slots.len());
-        if list.len == 0 {
-            return None;
-        }
-        let i = place(list.head, 0, slots.len());
+        let list = self.read_over(slots);
+        let len = list.len.checked_sub(1)?;
+        let i = list.place(0, slots.len());
         self.head = i + 1;
-        self.len = list.len - 1;
+        self.len = len;
         Some(slots[i])
     }
 }

@@ -23,7 +23,7 @@ use Rattle.funnel.specs.declared.Portal.{Portal}
 use Rattle.funnel.specs.declared.Bend.{Bend}
 use Rattle.funnel.specs.declared.Chains.{Chains}
 use Rattle.funnel.specs.Corners.{vertex_meant, portal_meant, bend_meant}
-use Rattle.funnel.specs.Chains.{bend_of, Stands, Opens, Settles, settled}
+use Rattle.funnel.specs.Chains.{bend_of, Stands, SameRoom, Opens, Settles, settled}
 use Rattle.funnel.specs.Strings.{funnel_of, Reads, as_bend, own_bend, string_of, Writes, Found, Taut, memory_refusal}
 
 module _ (f : Surface) where
@@ -65,32 +65,32 @@ module _ (f : Surface) where
     bends_meant [] finals all = finals_meant finals all
     bends_meant (c ∷ nears) finals (here, all) = λ i. record { side = Left; vertex = record { number = c.vertex.0; point = here i } } ∷ bends_meant nears finals all i
 
-    module _ (s e : Point) (w : List Crossing) (d : Chains P) (slots places : List (Corner P)) (n : ℕ) (h : Stands at e Left d slots places n (settled at e Left s (funnel_of e (portals f w)))) where
+    module _ (s e : Point) (w : List Crossing) (d : Chains P) (n : ℕ) (h : Stands at e Left d n (settled at e Left s (funnel_of e (portals f w)))) where
       corners : List (Corner P)
-      corners = contents d.bends places
+      corners = contents d.bends d.places.now
 
-      near_first : take d.near (contents d.row slots) ≡ h.nears
+      near_first : take d.near (contents d.row d.slots.now) ≡ h.nears
       near_first = (λ i. take (h.near_count i) (h.parts i)) ∙ take-append_seam h.nears (h.apex ∷ h.fars)
 
-      near_fits : d.near ≤ length (contents d.row slots)
+      near_fits : d.near ≤ length (contents d.row d.slots.now)
       near_fits = omega (arith, h.near_count, ap length h.parts, length-append h.nears (h.apex ∷ h.fars))
 
-      string_is : string_of d slots places ≡ map (as_bend Left) h.nears ++ map own_bend (contents d.bends places)
-      string_is = ap (λ l. map (as_bend Left) l ++ map own_bend (contents d.bends places)) near_first
+      string_is : string_of d ≡ map (as_bend Left) h.nears ++ map own_bend (contents d.bends d.places.now)
+      string_is = ap (λ l. map (as_bend Left) l ++ map own_bend (contents d.bends d.places.now)) near_first
 
-      turnings_are : turnings h.nears (contents d.bends places) ≡ funnel quadratics sign s (portals f w) e
+      turnings_are : turnings h.nears (contents d.bends d.places.now) ≡ funnel quadratics sign s (portals f w) e
       turnings_are = ap (λ g. bends Left g.near ++ g.final) h.is ∙ seen_whole s e (portals f w)
 
-      meant_are : map (bend_meant f) (string_of d slots places) ≡ funnel quadratics sign s (portals f w) e
+      meant_are : map (bend_meant f) (string_of d) ≡ funnel quadratics sign s (portals f w) e
       meant_are =
           ap (map (bend_meant f)) string_is
-          ∙ bends_meant h.nears (contents d.bends places) (subst (Each (λ b. Placed b.vertex)) (sym turnings_are) (funnel_made quadratics sign Placed s (portals f w) e (ends_placed w)))
+          ∙ bends_meant h.nears (contents d.bends d.places.now) (subst (Each (λ b. Placed b.vertex)) (sym turnings_are) (funnel_made quadratics sign Placed s (portals f w) e (ends_placed w)))
           ∙ turnings_are
 
-      few_bends : length (string_of d slots places) ≤ length w
-      few_bends = omega (arith, funnel_few quadratics sign s (portals f w) e, length_portals w, ap length meant_are, length-map (string_of d slots places) (bend_meant f))
+      few_bends : length (string_of d) ≤ length w
+      few_bends = omega (arith, funnel_few quadratics sign s (portals f w) e, length_portals w, ap length meant_are, length-map (string_of d) (bend_meant f))
 
-      pub found_written : (m : ℕ) (out out' : List Bend) → length w ≤ length out → Writes d slots places m out out' → Found f s w e m out out'
+      pub found_written : (m : ℕ) (out out' : List Bend) → length w ≤ length out → Writes d m out out' → Found f s w e m out out'
       found_written m out out' room writes =
           let written = writes near_fits (omega (arith, few_bends)) in
           record {
@@ -99,21 +99,21 @@ module _ (f : Surface) where
             behind = written.behind;
           }
 
-    pub found_some : (s : Point) (x : P) (rest w : List Crossing) (last : Crossing) (portal : Portal P) (d₀ d₁ d₂ : Chains P) (slots slots₁ slots₂ places places₁ places₂ : List (Corner P)) (m : ℕ) (out out' : List Bend)
+    pub found_some : (s : Point) (x : P) (rest w : List Crossing) (last : Crossing) (portal : Portal P) (d₀ d₁ d₂ : Chains P) (slots places : List (Corner P)) (m : ℕ) (out out' : List Bend)
         → w ≡ rest ++ last ∷ [] → portal_meant at portal ≡ portal_of f last
-        → Opens at x portal d₀ slots₁ → length slots₁ ≡ length slots
-        → Reads at f rest portal d₀ slots₁ places d₁ slots₂ places₁ → length places₁ ≡ length places
-        → Settles at Left s d₁ slots₂ places₁ d₂ places₂
-        → Writes d₂ slots₂ places₂ m out out'
+        → Opens at x portal d₀ → (length d₀.slots.now ≡ length slots) × (length d₀.places.now ≡ length places)
+        → Reads at f rest portal d₀ d₁ → SameRoom d₀ d₁
+        → Settles at Left s d₁ d₂
+        → Writes d₂ m out out'
         → length w + 1 < length slots → length w + 1 ≤ length places → length w ≤ length out → Found f s w (at x) m out out'
-    found_some s x rest w last portal d₀ d₁ d₂ slots slots₁ slots₂ places places₁ places₂ m out out' all is opens same_slots reads same_places settles writes room fits outs =
+    found_some s x rest w last portal d₀ d₁ d₂ slots places m out out' all is opens first reads same settles writes room fits outs =
         let count : length w ≡ length rest + 1 = ap length all ∙ length-append rest (last ∷ []) in
-        let opened = opens places (omega (arith, count, same_slots, room)) in
-        let read = reads (at x) 2 [] (omega (arith, count, same_slots, room)) (omega (arith, count, fits)) opened in
-        let left_over = settles (at x) (2 + length rest) _ (omega (arith, count, same_places, fits)) read in
+        let opened = opens (omega (arith, count, first.0, room)) in
+        let read = reads (at x) 2 [] (omega (arith, count, first.0, room)) (omega (arith, count, first.1, fits)) opened in
+        let left_over = settles (at x) (2 + length rest) _ (omega (arith, count, first.1, same.1, fits)) read in
         let row : portals f rest ++ portal_meant at portal ∷ [] ≡ portals f w =
         ap (λ p. portals f rest ++ p ∷ []) is ∙ sym (portals_joined rest (last ∷ [])) ∙ ap (portals f) (sym all) in
-        found_written s (at x) w d₂ slots₂ places₂ (2 + length rest) (subst (λ ps. Stands at (at x) Left d₂ slots₂ places₂ (2 + length rest) (settled at (at x) Left s (funnel_of (at x) ps))) row left_over) m out out' outs writes
+        found_written s (at x) w d₂ (2 + length rest) (subst (λ ps. Stands at (at x) Left d₂ (2 + length rest) (settled at (at x) Left s (funnel_of (at x) ps))) row left_over) m out out' outs writes
 
 -- what an accepted pull has
 pub enough : (portals output working : ℕ) → None ≡ memory_refusal portals output working → (portals ≤ output) × (2 * portals + 3 ≤ working)

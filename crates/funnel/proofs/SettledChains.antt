@@ -1,5 +1,5 @@
 -- One turn of the loop on what chains hold: a corner is dropped, or the apex moves on, and the funnel that is left stays the same; or nothing is left to do.
-use Rattle.std.proofs.Common.{◌≡◌, ℕ, ◌+◌, ◌-◌, ◌<◌, ◌≤◌, Bool, true, false, List, [], ◌∷◌, ◌++◌, map, length, sym, refl, ap, ◌∙◌, subst, arith}
+use Rattle.std.proofs.Common.{◌≡◌, ℕ, ◌+◌, ◌-◌, ◌<◌, Bool, true, false, List, [], ◌∷◌, ◌++◌, map, length, sym, refl, ap, ◌∙◌, subst, arith}
 use Rattle.algebra.specs.Number.{Number, quadratics, sign}
 use Rattle.geometry.specs.Plane.{Point}
 use Rattle.taut.specs.declared.Side.{Side}
@@ -7,7 +7,6 @@ use Rattle.taut.specs.Sleeve.{other}
 use Rattle.taut.specs.TautString.{aim}
 use Rattle.taut.specs.Funnel.{Funnel, bears, next}
 use Rattle.taut.proofs.Popping.{drops_corner, keeps_corner, moves_apex, keeps_apex}
-use Rattle.std.proofs.lemmas.List.{length-append}
 use Rattle.funnel.specs.declared.Corner.{Corner}
 use Rattle.funnel.specs.Corners.{vertex_meant}
 use Rattle.funnel.specs.Chains.{bend_of, meant, Holds, settled, Turned}
@@ -33,21 +32,6 @@ module _ {P : Type 0} (at : P → Point) (e : Point) (t : Side) (y : Point) wher
       ap (λ c. at c.point) (sym same)
 
   module _ (row bends : List (Corner P)) (near far n : ℕ) (f : Funnel Number) (h : Holds at e row near far bends n f) where
-    long : length row ≡ near + far + 1
-    long = omega (arith, ap length h.parts, length-append h.nears (h.apex ∷ h.fars), h.near_count, h.far_count)
-
-    -- where a chain has a corner, the row has two
-    pub two : 0 < near + far → length row ≤ 1 → ⊥
-    two some short = omega (arith, long)
-
-    pub nothing_left : near ≡ 0 → far ≡ 0 → Turned at e t y f row near far bends n false
-    nothing_left no_near no_far = by h.nears h.fars h.near_count h.far_count h.is
-      where
-        by : (ns zs : List (Corner P)) → near ≡ length ns → far ≡ length zs → meant at ns bends zs ≡ f → Turned at e t y f row near far bends n false
-        by [] [] p q is = record { now = f; holds = h; same = refl; done = λ _. ap (settled at e t y) (sym is) ∙ is }
-        by [] (z ∷ zs) p q is = absurd (omega arith)
-        by (x ∷ ns) zs p q is = absurd (omega arith)
-
     module _ (c d : Corner P) (rest : List (Corner P)) (first : row ≡ c ∷ d ∷ rest) where
       pub near_stays : 0 < near → bears quadratics sign t y (at c.point) (at d.point) ≡ true → Turned at e t y f row near far bends n false
       near_stays some turns = by h.nears h.apex h.fars h.parts h.near_count h.top h.is

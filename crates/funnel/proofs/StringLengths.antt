@@ -4,8 +4,8 @@ use Rattle.std.proofs.lemmas.Int.{ints}
 use Rattle.std.proofs.lemmas.List.{take_rest}
 use Rattle.algebra.specs.Bounds.{Within}
 use Rattle.algebra.specs.Number.{number, ◌⊕◌}
-use Rattle.algebra.specs.Values.{value}
-use Rattle.algebra.specs.declared.Quadratic.{Quadratic}
+use Rattle.coordinates.specs.Values.{value}
+use Rattle.coordinates.specs.declared.Surd.{Surd}
 use Rattle.algebra.proofs.Quadratics.{quadratic_ring}
 use Rattle.geometry.specs.Plane.{Point, step}
 use Rattle.gauge.specs.declared.Length.{Length}
@@ -33,7 +33,7 @@ module _ {B : Type 0} (place : B → Point) (fs : List Form) (start : Point) (ro
   pub roomy : (left : List B) → Strung place fs start row end total last left → length row ≤ 18446744073709551615 → Roomy total
   roomy left w h = (roomy_part _ _ _ h w.p_bound, roomy_part _ _ _ h w.q_bound)
 
-  pub strung_on : (left : List B) (none : B) (here : Point) (piece : Quadratic) (more : Length)
+  pub strung_on : (left : List B) (none : B) (here : Point) (piece : Surd 1000000000000000000) (more : Length)
       → Strung place fs start row end total last left → 1 ≤ length left
       → here ≡ place (get_or left 0 none) → value piece ≡ measure fs (step last here) → length_value more ≡ length_value total ⊕ value piece
       → Strung place fs start row end more here (take (length left - 1) (drop 1 left))
@@ -51,7 +51,7 @@ module _ {B : Type 0} (place : B → Point) (fs : List Form) (start : Point) (ro
         q_bound = grown_bound (length row) (length xs) total.q piece.q more.q w.few w.q_bound piece.q_within (ap (λ n. n.q) g);
       })
 
-  pub strung_out : (left : List B) (piece : Quadratic) (more : Length) → Strung place fs start row end total last left → length left < 1
+  pub strung_out : (left : List B) (piece : Surd 1000000000000000000) (more : Length) → Strung place fs start row end total last left → length left < 1
       → value piece ≡ measure fs (step last end) → length_value more ≡ length_value total ⊕ value piece
       → length_value more ≡ span fs start (map place row ++ end ∷ [])
   strung_out [] piece more w none f g =

@@ -1,5 +1,5 @@
 -- The bends that a funnel leaves, one by one: what stands at each place of the string, and what stands in the output when the first k are written.
-use Rattle.std.proofs.Common.{◌≡◌, ℕ, zero, suc, ◌+◌, ◌-◌, ◌<◌, ◌≤◌, List, [], ◌∷◌, ◌++◌, map, length, take, drop, set, Some, None, Option, sym, refl, ap, ◌∙◌, subst, add-one, arith}
+use Rattle.std.proofs.Common.{◌≡◌, ℕ, zero, suc, ◌+◌, ◌<◌, ◌≤◌, List, [], ◌∷◌, ◌++◌, length, take, drop, set, Some, None, sym, ap, ◌∙◌, subst, add-one, arith}
 use lib.Seq.{take-append_seam}
 use Rattle.std.proofs.lemmas.List.{take_all}
 use Rattle.std.proofs.lemmas.Slice.{drop-append-drop}
@@ -7,28 +7,6 @@ use Rattle.std.specs.List.{slice_get}
 use Rattle.funnel.specs.declared.Bend.{Bend}
 use Rattle.funnel.specs.Strings.{Written}
 use Rattle.funnel.proofs.FromTheRight.{held, none_there}
-
-abbrev pub mapped : {X Y : Type 0} → (X → Y) → Option X → Option Y
-mapped g None = None
-mapped g (Some x) = Some (g x)
-
-nth_map : {X Y : Type 0} (g : X → Y) (xs : List X) (k : ℕ) → slice_get (map g xs) k ≡ mapped g (slice_get xs k)
-nth_map g [] k = refl
-nth_map g (x ∷ xs) zero = refl
-nth_map g (x ∷ xs) (suc k) = nth_map g xs k
-
-module _ {X Z Y : Type 0} (f : X → Y) (g : Z → Y) where
-  pub nth_front : (row : List X) (more : List Z) (n k : ℕ) → n ≤ length row → k < n → slice_get (map f (take n row) ++ map g more) k ≡ mapped f (slice_get row k)
-  nth_front [] more n k fits lt = absurd (omega arith)
-  nth_front (x ∷ row) more zero k fits lt = absurd (omega arith)
-  nth_front (x ∷ row) more (suc n) zero fits lt = refl
-  nth_front (x ∷ row) more (suc n) (suc k) fits lt = nth_front row more n k (omega arith) (omega arith)
-
-  pub nth_behind : (row : List X) (more : List Z) (n k : ℕ) → n ≤ length row → n ≤ k → slice_get (map f (take n row) ++ map g more) k ≡ mapped g (slice_get more (k - n))
-  nth_behind row more zero k fits le = nth_map g more k ∙ ap (λ j. mapped g (slice_get more j)) (omega arith)
-  nth_behind [] more (suc n) k fits le = absurd (omega arith)
-  nth_behind (x ∷ row) more (suc n) zero fits le = absurd (omega arith)
-  nth_behind (x ∷ row) more (suc n) (suc k) fits le = nth_behind row more n k (omega arith) (omega arith) ∙ ap (λ j. mapped g (slice_get more j)) (omega arith)
 
 pub put_next : {X : Type 0} (bs o : List X) (k : ℕ) (x : X) → Some x ≡ slice_get bs k → k < length o → set (take k bs ++ drop k o) k x ≡ take (suc k) bs ++ drop (suc k) o
 put_next bs [] k x e lt = absurd (omega arith)
@@ -52,9 +30,6 @@ some_there [] k x e =
 some_there (y ∷ l) zero x e = omega arith
 some_there (y ∷ l) (suc k) x e = omega (arith, some_there l k x e)
 
-pub none_written : (bs out : List Bend) → Partly bs out 0 out
-none_written bs out = record { is = refl; within = omega arith }
-
 module _ (bs out now : List Bend) (k : ℕ) (h : Partly bs out k now) where
   pub one_written : (b : Bend) → Some b ≡ slice_get bs k → k < length out → Partly bs out (k + 1) (set now k b)
   one_written b next room =
@@ -71,8 +46,5 @@ module _ (bs out now : List Bend) (k : ℕ) (h : Partly bs out k now) where
         count = count;
       }
 
-  pub none_left : None ≡ slice_get bs k → Written bs k out now
-  none_left none = all_written (none_there bs k none)
-
-  pub full_written : (j : ℕ) → k ≡ j → length bs ≤ k → Written bs j out now
-  full_written j full few = subst (λ m. Written bs m out now) full (all_written few)
+  pub none_left : (same : List Bend) → same ≡ now → None ≡ slice_get bs k → Written bs k out same
+  none_left same kept none = subst (Written bs k out) (sym kept) (all_written (none_there bs k none))

@@ -1,3 +1,4 @@
+-- SameRoom    neither memory of chains has changed its size
 -- bend_of     a corner as a bend
 -- meant       the funnel that corners of the near chain, of bends and of the far chain are
 -- Holds       a row of corners, the numbers of corners in its chains and a list of bends stand for a funnel towards an end point, of n vertices at most:
@@ -6,7 +7,7 @@
 --   top         the apex is the first bend, or the end point
 --   is          the chains and the bends are those of the funnel
 --   few         chains and bends have n vertices together, or fewer
--- Stands      what chains hold over their memory, as seen from a side, stands for a funnel
+-- Stands      what chains hold, as seen from a side, stands for a funnel
 -- settled     what a new near end leaves of a funnel
 -- Turned      what is held now leaves the same funnel; where the answer is no, nothing is left to do
 -- Turns       one turn of the loop does so, whatever the end point and the funnel, where there are places for all its vertices
@@ -34,6 +35,10 @@ use Rattle.funnel.specs.declared.Portal.{Portal}
 use Rattle.funnel.specs.Corners.{vertex_meant, portal_meant}
 use Rattle.funnel.specs.Ends.{seen}
 
+module _ {P : Type 0} where
+  abbrev pub SameRoom : Chains P → Chains P → Type 0
+  SameRoom d d' = (length d'.slots.now ≡ length d.slots.now) × (length d'.places.now ≡ length d.places.now)
+
 module _ {P : Type 0} (at : P → Point) where
   abbrev pub bend_of : Corner P → Bend Number
   bend_of c = record { side = c.side; vertex = vertex_meant at c }
@@ -52,8 +57,8 @@ module _ {P : Type 0} (at : P → Point) where
     pub is : meant nears bends fars ≡ f
     pub few : near + far + length bends ≤ n
 
-  abbrev pub Stands : Point → Side → Chains P → List (Corner P) → List (Corner P) → ℕ → Funnel Number → Type 0
-  Stands e t d slots places n f = Holds e (seen t (contents d.row slots)) d.near d.far (contents d.bends places) n f
+  abbrev pub Stands : Point → Side → Chains P → ℕ → Funnel Number → Type 0
+  Stands e t d n f = Holds e (seen t (contents d.row d.slots.now)) d.near d.far (contents d.bends d.places.now) n f
 
   abbrev pub settled : Point → Side → Point → Funnel Number → Funnel Number
   settled e t y f = settle quadratics sign e t y f.near f.final f.far
@@ -64,36 +69,36 @@ module _ {P : Type 0} (at : P → Point) where
     pub same : settled e t y f ≡ settled e t y now
     pub done : more ≡ false → settled e t y now ≡ now
 
-  abbrev pub Turns : Side → Point → Chains P → List (Corner P) → List (Corner P) → Chains P → List (Corner P) → Bool → Type 0
-  Turns t y d slots places d' places' more = (e : Point) (n : ℕ) (f : Funnel Number) → n ≤ length places → Stands e t d slots places n f
-      → Turned e t y f (seen t (contents d'.row slots)) d'.near d'.far (contents d'.bends places') n more
+  abbrev pub Turns : Side → Point → Chains P → Chains P → Bool → Type 0
+  Turns t y d d' more = (e : Point) (n : ℕ) (f : Funnel Number) → n ≤ length d.places.now → Stands e t d n f
+      → Turned e t y f (seen t (contents d'.row d'.slots.now)) d'.near d'.far (contents d'.bends d'.places.now) n more
 
-  abbrev pub Settles : Side → Point → Chains P → List (Corner P) → List (Corner P) → Chains P → List (Corner P) → Type 0
-  Settles t y d slots places d' places' = (e : Point) (n : ℕ) (f : Funnel Number) → n ≤ length places → Stands e t d slots places n f → Stands e t d' slots places' n (settled e t y f)
+  abbrev pub Settles : Side → Point → Chains P → Chains P → Type 0
+  Settles t y d d' = (e : Point) (n : ℕ) (f : Funnel Number) → n ≤ length d.places.now → Stands e t d n f → Stands e t d' n (settled e t y f)
 
-  abbrev pub Pushes : Side → Corner P → Chains P → List (Corner P) → List (Corner P) → Chains P → List (Corner P) → Type 0
-  Pushes t c d slots places d' slots' = (e : Point) (n : ℕ) (f : Funnel Number) → n + 1 < length slots → Stands e t d slots places n f → Stands e t d' slots' places (n + 1) (push (vertex_meant at c) f)
+  abbrev pub Pushes : Side → Corner P → Chains P → Chains P → Type 0
+  Pushes t c d d' = (e : Point) (n : ℕ) (f : Funnel Number) → n + 1 < length d.slots.now → Stands e t d n f → Stands e t d' (n + 1) (push (vertex_meant at c) f)
 
-  abbrev pub Flips : Chains P → List (Corner P) → List (Corner P) → Chains P → Type 0
-  Flips d slots places d' = (e : Point) (t : Side) (n : ℕ) (f : Funnel Number) → Stands e t d slots places n f → Stands e (other t) d' slots places n (flip f)
+  abbrev pub Flips : Chains P → Chains P → Type 0
+  Flips d d' = (e : Point) (t : Side) (n : ℕ) (f : Funnel Number) → Stands e t d n f → Stands e (other t) d' n (flip f)
 
-  abbrev pub Nears : Side → Corner P → Chains P → List (Corner P) → List (Corner P) → Chains P → List (Corner P) → List (Corner P) → Type 0
-  Nears t c d slots places d' slots' places' = (e : Point) (n : ℕ) (f : Funnel Number) → n + 1 < length slots → n ≤ length places → Stands e t d slots places n f
-      → Stands e t d' slots' places' (n + 1) (push (vertex_meant at c) (settled e t (at c.point) f))
+  abbrev pub Nears : Side → Corner P → Chains P → Chains P → Type 0
+  Nears t c d d' = (e : Point) (n : ℕ) (f : Funnel Number) → n + 1 < length d.slots.now → n ≤ length d.places.now → Stands e t d n f
+      → Stands e t d' (n + 1) (push (vertex_meant at c) (settled e t (at c.point) f))
 
-  abbrev pub Gains : Side → Corner P → Chains P → List (Corner P) → List (Corner P) → Chains P → List (Corner P) → List (Corner P) → Type 0
-  Gains t c d slots places d' slots' places' = (e : Point) (n : ℕ) (f : Funnel Number) → n + 1 < length slots → n ≤ length places → Stands e Left d slots places n f
-      → Stands e Left d' slots' places' (n + 1) (gain quadratics sign e t (vertex_meant at c) f)
+  abbrev pub Gains : Side → Corner P → Chains P → Chains P → Type 0
+  Gains t c d d' = (e : Point) (n : ℕ) (f : Funnel Number) → n + 1 < length d.slots.now → n ≤ length d.places.now → Stands e Left d n f
+      → Stands e Left d' (n + 1) (gain quadratics sign e t (vertex_meant at c) f)
 
-  abbrev pub Widens : Portal P → Portal P → Chains P → List (Corner P) → List (Corner P) → Chains P → List (Corner P) → List (Corner P) → Type 0
-  Widens p q d slots places d' slots' places' = (e : Point) (n : ℕ) (f : Funnel Number) → n + 1 < length slots → n ≤ length places → Stands e Left d slots places n f
-      → Stands e Left d' slots' places' (n + 1) (widen quadratics sign e (portal_meant at p) (portal_meant at q) f)
+  abbrev pub Widens : Portal P → Portal P → Chains P → Chains P → Type 0
+  Widens p q d d' = (e : Point) (n : ℕ) (f : Funnel Number) → n + 1 < length d.slots.now → n ≤ length d.places.now → Stands e Left d n f
+      → Stands e Left d' (n + 1) (widen quadratics sign e (portal_meant at p) (portal_meant at q) f)
 
   abbrev pub no_chains : Funnel Number
   no_chains = record { near = []; final = []; far = [] }
 
-  abbrev pub Begins : P → Chains P → List (Corner P) → Type 0
-  Begins x d slots = (places : List (Corner P)) → 0 < length slots → Stands (at x) Left d slots places 0 no_chains
+  abbrev pub Begins : P → Chains P → Type 0
+  Begins x d = 0 < length d.slots.now → Stands (at x) Left d 0 no_chains
 
-  abbrev pub Opens : P → Portal P → Chains P → List (Corner P) → Type 0
-  Opens x p d slots = (places : List (Corner P)) → 2 < length slots → Stands (at x) Left d slots places 2 (funnel_at quadratics sign (at x) (portal_meant at p) [])
+  abbrev pub Opens : P → Portal P → Chains P → Type 0
+  Opens x p d = 2 < length d.slots.now → Stands (at x) Left d 2 (funnel_at quadratics sign (at x) (portal_meant at p) [])

@@ -8,11 +8,11 @@ use deque::Deque;
 use geometry::kinds::PointKind;
 use taut::Side;
 
-impl<P: PointKind> Chains<P> {
+impl<'w, P: PointKind> Chains<'w, P> {
     // The end point alone. It is no bend, so its vertex and its side say nothing.
-    fn at_end(slots: &mut [Corner<P>], end: P) -> Chains<P>
-        ensures begins { Begins P.at end result slots.new }
-        ensures size { length slots.new ≡ length slots.old }
+    fn at_end(slots: &'w mut [Corner<P>], places: &'w mut [Corner<P>], end: P) -> Chains<'w, P>
+        ensures begins { Begins P.at end result }
+        ensures room { (length result.slots.now ≡ length slots.old) × (length result.places.now ≡ length places.old) }
     {
         let mut row = Deque::new();
         let apex = Corner {
@@ -22,6 +22,8 @@ impl<P: PointKind> Chains<P> {
         };
         let _ = row.push_front(slots, apex);
         Chains {
+            slots,
+            places,
             row,
             bends: Deque::new(),
             near: 0,
@@ -30,14 +32,19 @@ impl<P: PointKind> Chains<P> {
     }
 
     // The funnel between the ends of the last portal and the end point.
-    pub(crate) fn open(slots: &mut [Corner<P>], end: P, portal: Portal<P>) -> Chains<P>
-        ensures opens { Opens P.at end portal result slots.new }
-        ensures size { length slots.new ≡ length slots.old }
+    pub(crate) fn open(
+        slots: &'w mut [Corner<P>],
+        places: &'w mut [Corner<P>],
+        end: P,
+        portal: Portal<P>,
+    ) -> Chains<'w, P>
+        ensures opens { Opens P.at end portal result }
+        ensures room { (length result.slots.now ≡ length slots.old) × (length result.places.now ≡ length places.old) }
     {
-        let mut chains = Chains::at_end(slots, end);
-        chains.push_near(slots, Side::Left, portal.left);
+        let mut chains = Chains::at_end(slots, places, end);
+        chains.push_near(Side::Left, portal.left);
         chains.flip();
-        chains.push_near(slots, Side::Right, portal.right);
+        chains.push_near(Side::Right, portal.right);
         chains.flip();
         chains
     }

@@ -1,4 +1,5 @@
 // A double-ended list read from the end that a side names: the left end is the front.
+// The memory is lent at each call, as the list itself has it: a look asks for no `&mut`.
 ghost use Rattle.std.specs.Prelude.{◌≡◌, ◌≤◌, [], ◌∷◌, length, drop, MatchOption, MatchResult};
 ghost use Rattle.std.specs.List.{slice_get};
 ghost use Rattle.base.specs.Refusals.{refusal};

@@ -1,19 +1,18 @@
 // A new end of the present portal.
-ghost use Rattle.std.specs.Prelude.{◌≡◌, List, length};
-ghost use Rattle.funnel.specs.Chains.{Pushes, Flips, Nears, Gains, Widens};
+ghost use Rattle.funnel.specs.Chains.{SameRoom, Pushes, Flips, Nears, Gains, Widens};
 
 use crate::ends::push;
 use crate::{Chains, Corner, Portal};
 use geometry::kinds::PointKind;
 use taut::Side;
 
-impl<P: PointKind> Chains<P> {
+impl<P: PointKind> Chains<'_, P> {
     // Puts a corner at the near end.
-    pub(crate) fn push_near(&mut self, slots: &mut [Corner<P>], side: Side, corner: Corner<P>)
-        ensures pushes { (places : List (Corner P)) → Pushes P.at side corner self.old slots.old places self.new slots.new }
-        ensures size { length slots.new ≡ length slots.old }
+    pub(crate) fn push_near(&mut self, side: Side, corner: Corner<P>)
+        ensures pushes { Pushes P.at side corner self.old self.new }
+        ensures room { SameRoom self.old self.new }
     {
-        let Ok(()) = push(&mut self.row, slots, side, corner) else {
+        let Ok(()) = push(&mut self.row, self.slots, side, corner) else {
             return;
         };
         self.near = self.near.saturating_add(1);
@@ -21,67 +20,45 @@ impl<P: PointKind> Chains<P> {
 
     // Turns to the other side.
     pub(crate) fn flip(&mut self)
-        ensures { (slots places : List (Corner P)) → Flips P.at self.old slots places self.new }
+        ensures flips { Flips P.at self.old self.new }
+        ensures room { SameRoom self.old self.new }
     {
-        let near = self.near;
-        self.near = self.far;
-        self.far = near;
+        std::mem::swap(&mut self.near, &mut self.far);
     }
 
     // Settles the chains for a new near end and puts it there.
-    fn gain_near(
-        &mut self,
-        slots: &mut [Corner<P>],
-        places: &mut [Corner<P>],
-        side: Side,
-        corner: Corner<P>,
-    )
-        ensures nears { Nears P.at side corner self.old slots.old places.old self.new slots.new places.new }
-        ensures slots { length slots.new ≡ length slots.old }
-        ensures places { length places.new ≡ length places.old }
+    fn gain_near(&mut self, side: Side, corner: Corner<P>)
+        ensures nears { Nears P.at side corner self.old self.new }
+        ensures room { SameRoom self.old self.new }
     {
-        self.settle(slots, places, side, corner.point);
-        self.push_near(slots, side, corner);
+        self.settle(side, corner.point);
+        self.push_near(side, corner);
     }
 
     // Takes in a new end on a side, seen from the left before and after.
-    pub(crate) fn gain(
-        &mut self,
-        slots: &mut [Corner<P>],
-        places: &mut [Corner<P>],
-        side: Side,
-        corner: Corner<P>,
-    )
-        ensures gains { Gains P.at side corner self.old slots.old places.old self.new slots.new places.new }
-        ensures slots { length slots.new ≡ length slots.old }
-        ensures places { length places.new ≡ length places.old }
+    pub(crate) fn gain(&mut self, side: Side, corner: Corner<P>)
+        ensures gains { Gains P.at side corner self.old self.new }
+        ensures room { SameRoom self.old self.new }
     {
         match side {
-            Side::Left => self.gain_near(slots, places, side, corner),
+            Side::Left => self.gain_near(side, corner),
             Side::Right => {
                 self.flip();
-                self.gain_near(slots, places, side, corner);
+                self.gain_near(side, corner);
                 self.flip();
             }
         }
     }
 
     // Goes from a portal to the portal before it: the end that they do not share is new.
-    pub(crate) fn widen(
-        &mut self,
-        slots: &mut [Corner<P>],
-        places: &mut [Corner<P>],
-        before: Portal<P>,
-        present: Portal<P>,
-    )
-        ensures widens { Widens P.at before present self.old slots.old places.old self.new slots.new places.new }
-        ensures slots { length slots.new ≡ length slots.old }
-        ensures places { length places.new ≡ length places.old }
+    pub(crate) fn widen(&mut self, before: Portal<P>, present: Portal<P>)
+        ensures widens { Widens P.at before present self.old self.new }
+        ensures room { SameRoom self.old self.new }
     {
-        if before.left.vertex.0 == present.left.vertex.0 {
-            self.gain(slots, places, Side::Right, before.right);
+        if before.left.vertex == present.left.vertex {
+            self.gain(Side::Right, before.right);
         } else {
-            self.gain(slots, places, Side::Left, before.left);
+            self.gain(Side::Left, before.left);
         }
     }
 }

@@ -1,13 +1,13 @@
 // The exact length of a string.
 ghost use Rattle.std.specs.Prelude.{◌≡◌, [], ◌∷◌, ◌++◌, map};
 ghost use Rattle.algebra.specs.Number.{◌⊕◌};
-ghost use Rattle.algebra.specs.Values.{value};
+ghost use Rattle.coordinates.specs.Values.{value};
 ghost use Rattle.gauge.specs.Forms.{length_value};
 ghost use Rattle.gauge.specs.Measure.{span};
 ghost use Rattle.funnel.specs.Corners.{bend_point, Roomy};
 
 use crate::Bend;
-use algebra::Quadratic;
+use coordinates::Quadratic;
 use gauge::Length;
 use gauge::gauges::Gauge;
 use geometry::kinds::PointKind;
@@ -37,6 +37,7 @@ pub fn string_length<M: Mesh, G: Gauge>(
     let mut total = Length { p: 0, q: 0 };
     let mut last = start;
     let mut left = bends;
+    // First and rest, with the previous point carried, as over points; a bend has no point, so the mesh is asked for each.
     while let [first, rest @ ..] = left {
         let point = mesh.point(first.vertex);
         total = grown(total, gauge.measure(M::Point::step(last, point)));

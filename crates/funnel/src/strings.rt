@@ -1,8 +1,8 @@
 // The bends of a taut string.
-ghost use Rattle.std.specs.Prelude.{◌≡◌, ◌+◌, ◌<◌, ◌≤◌, length, None, MatchResult};
+ghost use Rattle.std.specs.Prelude.{◌≡◌, length, None, MatchResult};
 ghost use Rattle.walks.specs.Walks.{portal_of};
 ghost use Rattle.funnel.specs.Corners.{portal_meant};
-ghost use Rattle.funnel.specs.Chains.{Widens};
+ghost use Rattle.funnel.specs.Chains.{SameRoom, Widens};
 ghost use Rattle.base.specs.Refusals.{refusal};
 ghost use Rattle.funnel.specs.Strings.{Reads, Found, Taut, working_places, memory_refusal};
 
@@ -17,17 +17,14 @@ fn step_back<M: Mesh>(
     mesh: &M,
     crossing: Crossing,
     present: Portal<M::Point>,
-    chains: &mut Chains<M::Point>,
-    slots: &mut [Corner<M::Point>],
-    places: &mut [Corner<M::Point>],
+    chains: &mut Chains<'_, M::Point>,
 ) -> Portal<M::Point>
     ensures portal { portal_meant M.Point.PointKind.at result ≡ portal_of (M.surface mesh.now) crossing }
-    ensures widens { Widens M.Point.PointKind.at result present chains.old slots.old places.old chains.new slots.new places.new }
-    ensures slots { length slots.new ≡ length slots.old }
-    ensures places { length places.new ≡ length places.old }
+    ensures widens { Widens M.Point.PointKind.at result present chains.old chains.new }
+    ensures room { SameRoom chains.old chains.new }
 {
     let before = portal_of(mesh, crossing);
-    chains.widen(slots, places, before, present);
+    chains.widen(before, present);
     before
 }
 
@@ -36,40 +33,14 @@ fn read_back<M: Mesh>(
     mesh: &M,
     crossings: &[Crossing],
     mut present: Portal<M::Point>,
-    chains: &mut Chains<M::Point>,
-    slots: &mut [Corner<M::Point>],
-    places: &mut [Corner<M::Point>],
+    chains: &mut Chains<'_, M::Point>,
 )
-    ensures reads { Reads M.Point.PointKind.at (M.surface mesh.now) crossings.now present chains.old slots.old places.old chains.new slots.new places.new }
-    ensures slots { length slots.new ≡ length slots.old }
-    ensures places { length places.new ≡ length places.old }
+    ensures reads { Reads M.Point.PointKind.at (M.surface mesh.now) crossings.now present chains.old chains.new }
+    ensures room { SameRoom chains.old chains.new }
 {
-    for k in (0..crossings.len()).rev() {
-        present = step_back(mesh, crossings[k], present, chains, slots, places);
+    for &crossing in crossings.iter().rev() {
+        present = step_back(mesh, crossing, present, chains);
     }
-}
-
-// Finds the bends in memory that suffices for them, and answers how many there are.
-fn write_string<M: Mesh>(
-    mesh: &M,
-    start: M::Point,
-    crossings: &[Crossing],
-    end: M::Point,
-    slots: &mut [Corner<M::Point>],
-    places: &mut [Corner<M::Point>],
-    out: &mut [Bend],
-) -> usize
-    ensures { length crossings.now + 1 < length slots.old → length crossings.now + 1 ≤ length places.old → length crossings.now ≤ length out.old
-        → Found (M.surface mesh.now) (M.Point.PointKind.at start) crossings.now (M.Point.PointKind.at end) result out.old out.new }
-{
-    let [rest @ .., last] = crossings else {
-        return 0;
-    };
-    let portal = portal_of(mesh, *last);
-    let mut chains = Chains::open(slots, end, portal);
-    read_back(mesh, rest, portal, &mut chains, slots, places);
-    chains.meet_start(slots, places, start);
-    chains.write(slots, places, out)
 }
 
 // How many places of working memory a string through so many portals needs; a number past 64 bits stops at the largest.
@@ -95,7 +66,7 @@ fn check_memory(portals: usize, output: usize, working: usize) -> Result<(), Ref
     Ok(())
 }
 
-// The same in one memory, where that suffices.
+// Finds the bends in working memory that suffices for them, and answers how many there are.
 fn string_within<M: Mesh>(
     mesh: &M,
     start: M::Point,
@@ -108,8 +79,15 @@ fn string_within<M: Mesh>(
     ensures found { Found (M.surface mesh.now) (M.Point.PointKind.at start) crossings.now (M.Point.PointKind.at end) result out.old out.new }
     ensures taut { Taut (M.surface mesh.now) (M.Point.PointKind.at start) crossings.now (M.Point.PointKind.at end) result out.new }
 {
+    let [rest @ .., last] = crossings else {
+        return 0;
+    };
     let (slots, places) = working.split_at_mut(crossings.len() + 2);
-    write_string(mesh, start, crossings, end, slots, places, out)
+    let portal = portal_of(mesh, *last);
+    let mut chains = Chains::open(slots, places, end, portal);
+    read_back(mesh, rest, portal, &mut chains);
+    chains.meet_start(start);
+    chains.write(out)
 }
 
 // The bends of the string that is pulled taut from a start through the portals of crossings to an end.
@@ -131,6 +109,5 @@ pub fn taut_string<M: Mesh>(
         (λ _. Unit {0}) }
 {
     check_memory(crossings.len(), out.len(), working.len())?;
-    let count = string_within(mesh, start, crossings, end, working, out);
-    Ok(count)
+    Ok(string_within(mesh, start, crossings, end, working, out))
 }

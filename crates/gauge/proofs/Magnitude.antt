@@ -1,10 +1,9 @@
 -- |dx| + |dy| is the largest value of the forms (±1, ±1), and the larger of |dx| and |dy| that of (±1, 0), (0, ±1).
 use Rattle.std.proofs.Common.{◌≡◌, ◌⊎◌, sym, refl, ◌∙◌, subst, inl, inr}
 use Rattle.algebra.specs.Arithmetic.{Nn}
-use Rattle.algebra.specs.Number.{Number, minus, sign, Signed, ◌⊕◌, quadratics}
+use Rattle.algebra.specs.Number.{Number, minus, sign, Signed, signless, magnitude, ◌⊕◌, quadratics}
 use Rattle.algebra.specs.Order.{AtMost}
 use Rattle.algebra.specs.Plane.{Vec}
-use Rattle.coordinates.specs.Sizes.{signless, magnitude}
 use Rattle.algebra.specs.declared.Sign.{Sign}
 use Rattle.algebra.specs.declared.Sign.TheVariants.{Minus, Zero, Plus}
 use Rattle.algebra.proofs.RingSolver.{ring, ◌:+◌, ◌:-◌, ◌:*◌, :-◌, ◌:=◌, :0, :1}

@@ -1,18 +1,18 @@
 -- A row of points, walked from its first point: what is behind and what is ahead measure together what the whole row does.
-use Rattle.std.proofs.Common.{◌≡◌, ℕ, suc, ◌-◌, ◌*◌, ◌<◌, ◌≤◌, List, [], ◌∷◌, map, length, get_or, take, drop, ℤ, ◌+ℤ◌, sym, refl, ap, ◌∙◌, subst, arith}
+use Rattle.std.proofs.Common.{◌≡◌, ℕ, suc, ◌-◌, ◌*◌, ◌≤◌, List, [], ◌∷◌, map, length, get_or, take, drop, ℤ, ◌+ℤ◌, sym, ap, ◌∙◌, subst, arith}
 use Rattle.std.proofs.lemmas.Int.{ints}
 use Rattle.std.proofs.lemmas.List.{take_rest}
 use Rattle.algebra.specs.Bounds.{Within}
-use Rattle.algebra.specs.Number.{Number, number, zero, ◌⊕◌}
-use Rattle.algebra.specs.Values.{value}
-use Rattle.algebra.specs.declared.Quadratic.{Quadratic}
+use Rattle.algebra.specs.Number.{number, ◌⊕◌}
+use Rattle.coordinates.specs.Values.{value}
+use Rattle.coordinates.specs.declared.Surd.{Surd}
 use Rattle.algebra.proofs.Quadratics.{quadratic_ring}
 use Rattle.geometry.specs.Plane.{Point, step}
 use Rattle.geometry.specs.Points.{step_value}
-use Rattle.geometry.specs.declared.Step.{Step}
+use Rattle.coordinates.specs.declared.Step.{Step}
 use Rattle.gauge.specs.declared.Length.{Length}
 use Rattle.gauge.specs.Forms.{length_value}
-use Rattle.gauge.specs.Measure.{Form, measure, span, length_of}
+use Rattle.gauge.specs.Measure.{Form, measure, span}
 
 -- rests on no piece being longer than 10^18
 pub record Walked {P : Type 0} (at : P → Point) (fs : List Form) (start : P) (row : List P) (total : Length) (last : P) (left : List P) : Type 0 where
@@ -24,7 +24,7 @@ pub record Walked {P : Type 0} (at : P → Point) (fs : List Form) (start : P) (
 grown : (n k : ℕ) (a b c : ℤ) → suc k ≤ n → Within (1000000000000000000 * (n - suc k)) a → Within 1000000000000000000 b → c ≡ a +ℤ b → Within (1000000000000000000 * (n - k)) c
 grown n k a b c h (al, ah) (bl, bh) e = (omega (arith, ints), omega (arith, ints))
 
-pub walked_on : {P : Type 0} (at : P → Point) (fs : List Form) (start : P) (row : List P) (total : Length) (last : P) (left : List P) (first : P) (piece : Quadratic) (s : Step) (p q : ℤ)
+pub walked_on : {P : Type 0} (at : P → Point) (fs : List Form) (start : P) (row : List P) (total : Length) (last : P) (left : List P) (first : P) (piece : Surd 1000000000000000000) (s : Step) (p q : ℤ)
     → Walked at fs start row total last left → 1 ≤ length left → first ≡ get_or left 0 first
     → step_value s ≡ step (at last) (at first) → value piece ≡ measure fs (step_value s)
     → p ≡ total.p +ℤ piece.p → q ≡ total.q +ℤ piece.q
@@ -42,17 +42,3 @@ walked_on at fs start row total last (x ∷ xs) first piece s p q w some is e f 
       p_bound = grown (length row) (length xs) total.p piece.p p w.few w.p_bound piece.p_within hp;
       q_bound = grown (length row) (length xs) total.q piece.q q w.few w.q_bound piece.q_within hq;
     })
-
-pub arrived : {P : Type 0} (at : P → Point) (fs : List Form) (start : P) (row : List P) (total : Length) (last : P) (left : List P)
-    → Walked at fs start row total last left → length left < 1 → length_value total ≡ span fs (at start) (map at row)
-arrived at fs start row total last [] w none = sym (quadratic_ring.laws.ring.add_nil (length_value total)) ∙ w.sum
-arrived at fs start row total last (x ∷ xs) w none = absurd (omega arith)
-
-pub no_row : {P : Type 0} (at : P → Point) (fs : List Form) (row : List P) → length row < 1 → zero ≡ length_of fs (map at row)
-no_row at fs [] none = refl
-no_row at fs (x ∷ xs) none = absurd (omega arith)
-
-pub whole_row : {P : Type 0} (at : P → Point) (fs : List Form) (row : List P) (first : P) (m : Number) → 1 ≤ length row → first ≡ get_or row 0 first
-    → m ≡ span fs (at first) (map at (take (length row - 1) (drop 1 row))) → m ≡ length_of fs (map at row)
-whole_row at fs [] first m some is e = absurd (omega arith)
-whole_row at fs (x ∷ xs) first m some is e = e ∙ ap (λ l. span fs (at first) (map at l)) (take_rest (x ∷ xs) 1) ∙ ap (λ y. span fs (at y) (map at xs)) is

@@ -1,14 +1,12 @@
 // What a gauge is, and the measure by a table of forms.
 ghost use Rattle.std.specs.Prelude.{◌≡◌, List, map};
-ghost use Rattle.algebra.specs.Values.{value};
+ghost use Rattle.coordinates.specs.Values.{value};
 ghost use Rattle.geometry.specs.Points.{step_value};
-ghost use Rattle.gauge.specs.Measure.{Form, at, measure, top, larger, Lawful};
+ghost use Rattle.gauge.specs.Measure.{Form, at, measure, top, Lawful};
 ghost use Rattle.gauge.specs.Forms.{form_value};
 
 use crate::LinearForm;
-use algebra::{Quadratic, Sign};
-use coordinates::Offset;
-use coordinates::products::dot;
+use coordinates::{Offset, Quadratic};
 use geometry::Step;
 
 pub trait Gauge {
@@ -26,22 +24,10 @@ impl LinearForm {
     pub fn at(self, step: Step) -> Quadratic
         ensures { value result ≡ at (form_value self) (step_value step) }
     {
-        dot(
+        step.dot(
             Offset::small(self.fp, self.fq),
             Offset::small(self.hp, self.hq),
-            step.dx,
-            step.dy,
         )
-    }
-}
-
-// The larger of two numbers.
-pub fn larger_of(a: Quadratic, b: Quadratic) -> Quadratic
-    ensures { value result ≡ larger (value a) (value b) }
-{
-    match a.compared_to(b) {
-        Sign::Plus => a,
-        Sign::Zero | Sign::Minus => b,
     }
 }
 
@@ -51,7 +37,7 @@ fn largest_from(best: Quadratic, forms: &[LinearForm], step: Step) -> Quadratic
 {
     let mut best = best;
     for form in forms {
-        best = larger_of(form.at(step), best);
+        best = form.at(step).max(best);
     }
     best
 }

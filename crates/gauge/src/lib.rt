@@ -5,9 +5,10 @@ pub mod gauges;
 pub mod laws;
 pub mod rows;
 pub mod supplied;
+pub mod text;
 
 // The form (fp + fq√2, hp + hq√2).
-#[derive(Clone, Copy)]
+#[derive(Debug, Clone, Copy, PartialEq, Eq)]
 pub struct LinearForm {
     pub fp: i8,
     pub fq: i8,
@@ -16,7 +17,7 @@ pub struct LinearForm {
 }
 
 // An exact length p + q√2. 128 bits hold the length of every row of points that memory can hold.
-#[derive(Clone, Copy)]
+#[derive(Debug, Clone, Copy, PartialEq, Eq)]
 pub struct Length {
     pub p: i128,
     pub q: i128,

@@ -16,6 +16,7 @@ pub fn span_of<P: PointKind, G: Gauge>(gauge: &G, start: P, row: &[P]) -> Length
     let mut left = row;
     while let [first, rest @ ..] = left {
         let piece = gauge.measure(P::step(last, *first));
+        // Added here: that 128 bits hold the sum is known only from how long the row is.
         total = Length {
             p: total.p + piece.p as i128,
             q: total.q + piece.q as i128,

@@ -3,22 +3,23 @@ ghost use Rattle.gauge.specs.Forms.{l1_forms, maximum_forms, octagon_forms};
 ghost use Rattle.gauge.specs.LawfulForms.{l1_lawful, maximum_lawful, octagon_lawful};
 
 use crate::LinearForm;
-use crate::gauges::{Gauge, larger_of, largest_value};
-use algebra::Quadratic;
+use crate::gauges::{Gauge, largest_value};
+use coordinates::Quadratic;
 use geometry::Step;
 
 // |dx| + |dy|.
-#[derive(Clone, Copy)]
+#[derive(Debug, Clone, Copy, PartialEq, Eq)]
 pub struct L1;
 
 // The larger of |dx| and |dy|.
-#[derive(Clone, Copy)]
+#[derive(Debug, Clone, Copy, PartialEq, Eq)]
 pub struct Maximum;
 
 // The norm whose unit ball is a regular octagon, scaled so that every part is whole.
-#[derive(Clone, Copy)]
+#[derive(Debug, Clone, Copy, PartialEq, Eq)]
 pub struct Octagon;
 
+// Written out: a constant's value can call no function.
 const OCTAGON: [LinearForm; 8] = [
     LinearForm {
         fp: 0,
@@ -76,7 +77,7 @@ impl Gauge for L1 {
     ghost lawful = { λ g. l1_lawful };
 
     fn measure(&self, step: Step) -> Quadratic {
-        step.dx.magnitude().plus(step.dy.magnitude())
+        step.dx.magnitude() + step.dy.magnitude()
     }
 }
 
@@ -86,7 +87,7 @@ impl Gauge for Maximum {
     ghost lawful = { λ g. maximum_lawful };
 
     fn measure(&self, step: Step) -> Quadratic {
-        larger_of(step.dx.magnitude().widened(), step.dy.magnitude().widened())
+        Quadratic::from(step.dx.magnitude()).max(step.dy.magnitude().into())
     }
 }
 

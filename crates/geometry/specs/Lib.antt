@@ -1,3 +1,4 @@
 pub mod Plane
 pub mod Ranges
 pub mod Points
+pub mod Text

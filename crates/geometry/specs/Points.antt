@@ -4,8 +4,8 @@
 use Rattle.std.specs.Prelude.{pos}
 use Rattle.algebra.specs.Number.{Number, number}
 use Rattle.algebra.specs.Plane.{Vec}
-use Rattle.coordinates.specs.Sizes.{offset_value, coordinate_value}
-use Rattle.geometry.specs.declared.Step.{Step}
+use Rattle.coordinates.specs.Values.{value}
+use Rattle.coordinates.specs.declared.Step.{Step}
 use Rattle.geometry.specs.declared.IntegerPoint.{IntegerPoint}
 use Rattle.geometry.specs.declared.QuadraticPoint.{QuadraticPoint}
 use Rattle.geometry.specs.declared.IntegerRow.{IntegerRow}
@@ -13,13 +13,13 @@ use Rattle.geometry.specs.declared.QuadraticRow.{QuadraticRow}
 use Rattle.geometry.specs.Plane.{Point, point}
 
 abbrev pub step_value : Step → Vec Number
-step_value s = point (offset_value s.dx) (offset_value s.dy)
+step_value s = point (value s.dx) (value s.dy)
 
 abbrev pub integer_point : IntegerPoint → Point
 integer_point a = point (number a.x (pos 0)) (number a.y (pos 0))
 
 abbrev pub quadratic_point : QuadraticPoint → Point
-quadratic_point a = point (coordinate_value a.x) (coordinate_value a.y)
+quadratic_point a = point (value a.x) (value a.y)
 
 abbrev pub integer_row : IntegerRow → Point
 integer_row a = point (number a.x (pos 0)) (number a.y (pos 0))

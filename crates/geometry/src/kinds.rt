@@ -1,7 +1,7 @@
 // What every kind of point answers. Steps and turns are written once, for all kinds.
 ghost use Rattle.std.specs.Prelude.{◌≡◌};
-ghost use Rattle.coordinates.specs.Sizes.{coordinate_value};
-ghost use Rattle.geometry.specs.Plane.{Point, step, turn, mirror};
+ghost use Rattle.coordinates.specs.Values.{value};
+ghost use Rattle.geometry.specs.Plane.{Point, origin, step, turn, mirror};
 ghost use Rattle.geometry.specs.Points.{step_value};
 ghost use Rattle.geometry.specs.Ranges.{Made};
 
@@ -9,7 +9,6 @@ use crate::{Step, Turn};
 use algebra::Sign;
 use base::refusals::Refusal;
 use coordinates::Coordinate;
-use coordinates::products::cross;
 
 pub trait PointKind: Copy {
     // Plain coordinates of such a point.
@@ -25,11 +24,15 @@ pub trait PointKind: Copy {
     fn make(row: Self::Row) -> Result<Self, Refusal>
         ensures { Made at result (written row) };
 
+    // The point with both coordinates 0.
+    fn origin() -> Self
+        ensures { at result ≡ origin };
+
     fn x(self) -> Coordinate
-        ensures { coordinate_value result ≡ (at self).x };
+        ensures { value result ≡ (at self).x };
 
     fn y(self) -> Coordinate
-        ensures { coordinate_value result ≡ (at self).y };
+        ensures { value result ≡ (at self).y };
 
     // The point with the sign of x changed.
     fn mirrored(self) -> Self
@@ -40,8 +43,8 @@ pub trait PointKind: Copy {
         ensures { step_value result ≡ step (at a) (at b) }
     {
         Step {
-            dx: b.x().minus(a.x()),
-            dy: b.y().minus(a.y()),
+            dx: b.x() - a.x(),
+            dy: b.y() - a.y(),
         }
     }
 
@@ -51,7 +54,7 @@ pub trait PointKind: Copy {
     {
         let u = Self::step(a, b);
         let v = Self::step(a, c);
-        match cross(u.dx, u.dy, v.dx, v.dy).sign() {
+        match u.cross(v).sign() {
             Sign::Plus => Turn::Left,
             Sign::Zero => Turn::Straight,
             Sign::Minus => Turn::Right,

@@ -3,34 +3,29 @@
 
 ghost use Rattle.algebra.specs.Bounds.{Within};
 
-use coordinates::{Coordinate, Offset};
+use coordinates::Coordinate;
+pub use coordinates::Step;
 
 pub mod kinds;
 pub mod points;
+pub mod text;
 
-#[derive(Clone, Copy, PartialEq, Eq)]
+#[derive(Debug, Clone, Copy, PartialEq, Eq)]
 pub enum Turn {
     Left,
     Straight,
     Right,
 }
 
-// The differences in x and y between two points.
-#[derive(Clone, Copy)]
-pub struct Step {
-    pub dx: Offset,
-    pub dy: Offset,
-}
-
 // Plain coordinates of a point, as a list has them; they may be out of range.
-#[derive(Clone, Copy)]
+#[derive(Debug, Clone, Copy, PartialEq, Eq)]
 pub struct IntegerRow {
     pub x: i32,
     pub y: i32,
 }
 
 // The same for x = xp + xq√2 and y = yp + yq√2.
-#[derive(Clone, Copy)]
+#[derive(Debug, Clone, Copy, PartialEq, Eq)]
 pub struct QuadraticRow {
     pub xp: i32,
     pub xq: i32,
@@ -39,7 +34,7 @@ pub struct QuadraticRow {
 }
 
 // A point with whole coordinates, from -10,000 to 10,000.
-#[derive(Clone, Copy)]
+#[derive(Debug, Clone, Copy, PartialEq, Eq)]
 pub struct IntegerPoint {
     pub x: i32,
     pub y: i32,
@@ -48,7 +43,7 @@ pub struct IntegerPoint {
 }
 
 // A point whose coordinates have both parts.
-#[derive(Clone, Copy)]
+#[derive(Debug, Clone, Copy, PartialEq, Eq)]
 pub struct QuadraticPoint {
     pub x: Coordinate,
     pub y: Coordinate,

@@ -1,5 +1,7 @@
 // The two kinds of points.
 ghost use Rattle.std.specs.Prelude.{pos};
+ghost use Rattle.algebra.specs.Number.{number};
+ghost use Rattle.geometry.specs.Ranges.{Placed};
 ghost use Rattle.geometry.specs.Points.{integer_point, quadratic_point, integer_row, quadratic_row};
 
 use crate::kinds::PointKind;
@@ -18,21 +20,32 @@ impl PointKind for IntegerPoint {
     ghost written = { integer_row };
 
     fn make(row: IntegerRow) -> Result<IntegerPoint, Refusal> {
-        if row.x < -LIMIT || row.x > LIMIT {
+        let range = -LIMIT..=LIMIT;
+        if !range.contains(&row.x) {
             return Err(Refusal::PointRange { axis: Axis::X });
         }
-        if row.y < -LIMIT || row.y > LIMIT {
+        if !range.contains(&row.y) {
             return Err(Refusal::PointRange { axis: Axis::Y });
         }
         Ok(IntegerPoint { x: row.x, y: row.y })
     }
 
+    fn origin() -> IntegerPoint {
+        IntegerPoint { x: 0, y: 0 }
+    }
+
     fn x(self) -> Coordinate {
-        Coordinate { p: self.x, q: 0 }
+        Coordinate {
+            p: self.x.into(),
+            q: 0,
+        }
     }
 
     fn y(self) -> Coordinate {
-        Coordinate { p: self.y, q: 0 }
+        Coordinate {
+            p: self.y.into(),
+            q: 0,
+        }
     }
 
     fn mirrored(self) -> IntegerPoint {
@@ -43,6 +56,13 @@ impl PointKind for IntegerPoint {
     }
 }
 
+// The coordinate with these parts, or the refusal that names its axis.
+fn coordinate(p: i32, q: i32, axis: Axis) -> Result<Coordinate, Refusal>
+    ensures { Placed result (number p q) axis }
+{
+    Coordinate::new(p.into(), q.into()).ok_or(Refusal::PointRange { axis })
+}
+
 impl PointKind for QuadraticPoint {
     type Row = QuadraticRow;
 
@@ -51,13 +71,14 @@ impl PointKind for QuadraticPoint {
     ghost written = { quadratic_row };
 
     fn make(row: QuadraticRow) -> Result<QuadraticPoint, Refusal> {
-        let Some(x) = Coordinate::new(row.xp, row.xq) else {
-            return Err(Refusal::PointRange { axis: Axis::X });
-        };
-        let Some(y) = Coordinate::new(row.yp, row.yq) else {
-            return Err(Refusal::PointRange { axis: Axis::Y });
-        };
+        let x = coordinate(row.xp, row.xq, Axis::X)?;
+        let y = coordinate(row.yp, row.yq, Axis::Y)?;
         Ok(QuadraticPoint { x, y })
+    }
+
+    fn origin() -> QuadraticPoint {
+        let zero = Coordinate { p: 0, q: 0 };
+        QuadraticPoint { x: zero, y: zero }
     }
 
     fn x(self) -> Coordinate {
@@ -69,9 +90,7 @@ impl PointKind for QuadraticPoint {
     }
 
     fn mirrored(self) -> QuadraticPoint {
-        QuadraticPoint {
-            x: self.x.negated(),
-            y: self.y,
-        }
+        let x = -self.x;
+        QuadraticPoint { x, ..self }
     }
 }

@@ -1,9 +1,11 @@
 // The commands of a script, one to a line.
-use crate::rows::{
-    Kind, PointRow, SheetRow, TriangleRow, half_edge, point_row, sheet_row, triangle_row,
-};
+use crate::rows::{half_edge, triangle_row};
+use crate::stop::Stop;
 use base::ids::HalfEdgeId;
-use std::alloc::{AllocError, Global};
+use base::refusals::Refusal;
+use described::rows::{Kind, PointRow, TriangleRow, sheet_of};
+use meshes::sheets::PerforatedSheet;
+use std::alloc::Global;
 
 #[derive(Clone, Copy)]
 pub enum Command {
@@ -15,7 +17,7 @@ pub enum Command {
     AddVertex(PointRow),
     AddTriangle(TriangleRow),
     Check,
-    Sheet(SheetRow),
+    Sheet(Result<PerforatedSheet, Refusal>),
     Mirror,
     Bar(HalfEdgeId),
     Show,
@@ -29,16 +31,9 @@ pub struct Kinds {
 }
 
 // A line that is no command says what was expected in its place.
-pub(crate) fn parse(
-    heap: Global,
-    line: &str,
-    kinds: Kinds,
-) -> Result<Result<Command, &'static str>, AllocError> {
-    let mut words: Vec<&str> = Vec::new(heap);
-    for word in line.split_whitespace() {
-        words.push(word)?;
-    }
-    Ok(command_of(words.as_slice(), kinds))
+pub(crate) fn parse(heap: Global, line: &str, kinds: Kinds) -> Result<Command, Stop> {
+    let words: Vec<&str> = line.split_whitespace().collect(heap)?;
+    command_of(words.as_slice(), kinds).map_err(Stop::Expected)
 }
 
 fn command_of(words: &[&str], kinds: Kinds) -> Result<Command, &'static str> {
@@ -49,23 +44,32 @@ fn command_of(words: &[&str], kinds: Kinds) -> Result<Command, &'static str> {
     if name.starts_with('#') {
         return Ok(Command::Pass);
     }
+    // Each command has words of its own after its name, so each has an arm of its own.
     match name {
-        "kind" => set_kind(arguments),
+        "kind" => kind_of(arguments)
+            .map(Command::SetKind)
+            .ok_or("kind integer or kind quadratic"),
         "point" => add_point(arguments, kinds.row),
         "measure" => alone(arguments, Command::Measure, "measure with nothing after it"),
-        "mesh" => begin_mesh(arguments),
-        "vertex" | "triangle" | "check" => match kinds.mesh {
-            Some(kind) => describe(name, arguments, kind),
-            None => Err("mesh integer or mesh quadratic before the first of its lines"),
-        },
+        "mesh" => kind_of(arguments)
+            .map(Command::BeginMesh)
+            .ok_or("mesh integer or mesh quadratic"),
+        "vertex" | "triangle" | "check" => {
+            let kind = kinds.mesh.ok_or(
+                "mesh integer or mesh quadratic before the first of its lines",
+            )?;
+            describe(name, arguments, kind)
+        }
         _ => on_a_mesh(name, arguments),
     }
 }
 
-// The commands that make the current mesh without lists, or work on it.
+// The commands that make the current mesh without lists, or work on it; each has words of its own.
 fn on_a_mesh(name: &str, arguments: &[&str]) -> Result<Command, &'static str> {
     match name {
-        "sheet" => sheet(arguments),
+        "sheet" => sheet_of(arguments)
+            .map(Command::Sheet)
+            .ok_or("sheet A B G with three whole numbers from 0 to 65535"),
         "mirror" => alone(arguments, Command::Mirror, "mirror with nothing after it"),
         "bar" => bar(arguments),
         "show" => alone(arguments, Command::Show, "show with nothing after it"),
@@ -75,11 +79,13 @@ fn on_a_mesh(name: &str, arguments: &[&str]) -> Result<Command, &'static str> {
     }
 }
 
-// The lines of a mesh that has been begun.
+// The lines of a mesh that has been begun; each has words of its own.
 fn describe(name: &str, arguments: &[&str], kind: Kind) -> Result<Command, &'static str> {
     match name {
         "vertex" => add_vertex(arguments, kind),
-        "triangle" => add_triangle(arguments),
+        "triangle" => triangle_row(arguments).map(Command::AddTriangle).ok_or(
+            "triangle C0 C1 C2 A0 A1 A2 with whole numbers from 0 to 65535, and - across the boundary",
+        ),
         _ => alone(arguments, Command::Check, "check with nothing after it"),
     }
 }
@@ -97,65 +103,49 @@ fn alone(
 
 fn kind_of(arguments: &[&str]) -> Option<Kind> {
     match arguments {
-        ["integer"] => Some(Kind::Integer),
-        ["quadratic"] => Some(Kind::Quadratic),
+        [word] => word.parse::<Kind>().ok(),
         _ => None,
     }
 }
 
-fn set_kind(arguments: &[&str]) -> Result<Command, &'static str> {
-    match kind_of(arguments) {
-        Some(kind) => Ok(Command::SetKind(kind)),
-        None => Err("kind integer or kind quadratic"),
-    }
-}
-
-fn begin_mesh(arguments: &[&str]) -> Result<Command, &'static str> {
-    match kind_of(arguments) {
-        Some(kind) => Ok(Command::BeginMesh(kind)),
-        None => Err("mesh integer or mesh quadratic"),
-    }
+// The numbers of a point, or the form that a row of its kind has.
+fn point_row(
+    arguments: &[&str],
+    kind: Kind,
+    integer: &'static str,
+    quadratic: &'static str,
+) -> Result<PointRow, &'static str> {
+    PointRow::parse(kind, arguments).ok_or(match kind {
+        Kind::Integer => integer,
+        Kind::Quadratic => quadratic,
+    })
 }
 
 fn add_point(arguments: &[&str], kind: Kind) -> Result<Command, &'static str> {
-    match (point_row(arguments, kind), kind) {
-        (Some(row), _) => Ok(Command::AddPoint(row)),
-        (None, Kind::Integer) => Err("point X Y with two whole numbers of 32 bits"),
-        (None, Kind::Quadratic) => Err("point XP XQ YP YQ with four whole numbers of 32 bits"),
-    }
+    point_row(
+        arguments,
+        kind,
+        "point X Y with two whole numbers of 32 bits",
+        "point XP XQ YP YQ with four whole numbers of 32 bits",
+    )
+    .map(Command::AddPoint)
 }
 
 fn add_vertex(arguments: &[&str], kind: Kind) -> Result<Command, &'static str> {
-    match (point_row(arguments, kind), kind) {
-        (Some(row), _) => Ok(Command::AddVertex(row)),
-        (None, Kind::Integer) => Err("vertex X Y with two whole numbers of 32 bits"),
-        (None, Kind::Quadratic) => Err("vertex XP XQ YP YQ with four whole numbers of 32 bits"),
-    }
-}
-
-fn add_triangle(arguments: &[&str]) -> Result<Command, &'static str> {
-    match triangle_row(arguments) {
-        Some(row) => Ok(Command::AddTriangle(row)),
-        None => Err(
-            "triangle C0 C1 C2 A0 A1 A2 with whole numbers from 0 to 65535, and - across the boundary",
-        ),
-    }
-}
-
-fn sheet(arguments: &[&str]) -> Result<Command, &'static str> {
-    match sheet_row(arguments) {
-        Some(row) => Ok(Command::Sheet(row)),
-        None => Err("sheet A B G with three whole numbers from 0 to 65535"),
-    }
+    point_row(
+        arguments,
+        kind,
+        "vertex X Y with two whole numbers of 32 bits",
+        "vertex XP XQ YP YQ with four whole numbers of 32 bits",
+    )
+    .map(Command::AddVertex)
 }
 
 fn bar(arguments: &[&str]) -> Result<Command, &'static str> {
-    let side = match arguments {
+    match arguments {
         [word] => half_edge(*word),
         _ => None,
-    };
-    match side {
-        Some(side) => Ok(Command::Bar(side)),
-        None => Err("bar CODE with a whole number from 0 to 65535"),
     }
+    .map(Command::Bar)
+    .ok_or("bar CODE with a whole number from 0 to 65535")
 }

@@ -1,22 +1,29 @@
 // The mesh that the commands after it work on: a base, with layers over it.
-use crate::described::{Described, Vertices};
-use crate::layers::{Layers, Pile};
 use crate::shown::show;
 use crate::stop::Stop;
 use base::ids::HalfEdgeId;
 use base::refusals::Refusal;
+use described::layers::{Layers, Pile, SecondMirror};
+use described::lists::{Described, OnMesh};
 use meshes::Mesh;
-use meshes::integers::IntegerMesh;
 use meshes::mirrors::Mirrored;
-use meshes::quadratics::QuadraticMesh;
 use meshes::sheets::PerforatedSheet;
-use std::alloc::{AllocError, Global};
+use std::alloc::Global;
 
 #[derive(Drop)]
 pub enum Base {
     Sheet(PerforatedSheet),
     // Lists that were found sound.
     Lists(Described),
+}
+
+impl Base {
+    fn on_mesh<A: OnMesh>(&self, act: A) -> A::Answer {
+        match self {
+            Base::Sheet(sheet) => act.on(*sheet),
+            Base::Lists(lists) => lists.on_mesh(act),
+        }
+    }
 }
 
 #[derive(Drop)]
@@ -33,82 +40,56 @@ impl Current {
         }
     }
 
-    // False, with nothing changed, if one more mirror is not supported.
-    pub(crate) fn mirror(&mut self) -> bool {
+    pub(crate) fn mirror(&mut self) -> Result<(), SecondMirror> {
         self.layers.put_mirror()
     }
 
-    pub(crate) fn bar(&mut self, side: HalfEdgeId) -> Result<Result<(), Refusal>, AllocError> {
-        match self.try_bar(side) {
-            Ok(()) => {
-                self.layers.put_bar(side)?;
-                Ok(Ok(()))
-            }
-            Err(refusal) => Ok(Err(refusal)),
-        }
-    }
-
-    fn try_bar(&self, side: HalfEdgeId) -> Result<(), Refusal> {
-        match &self.base {
-            Base::Sheet(sheet) => self.layers.try_bar(*sheet, side),
-            Base::Lists(lists) => match lists.vertices() {
-                Vertices::Integer(rows) => self.layers.try_bar(
-                    IntegerMesh::new(
-                        lists.triangle_count(),
-                        rows.as_slice(),
-                        lists.corners(),
-                        lists.across(),
-                    ),
-                    side,
-                ),
-                Vertices::Quadratic(rows) => self.layers.try_bar(
-                    QuadraticMesh::new(
-                        lists.triangle_count(),
-                        rows.as_slice(),
-                        lists.corners(),
-                        lists.across(),
-                    ),
-                    side,
-                ),
-            },
-        }
+    pub(crate) fn bar(&mut self, side: HalfEdgeId) -> Result<(), Stop> {
+        let layers = &self.layers;
+        self.base.on_mesh(TryBar { layers, side })?;
+        self.layers.put_bar(side)?;
+        Ok(())
     }
 
     pub(crate) fn show(&self, rt: &HostRuntime) -> Result<(), Stop> {
-        match &self.base {
-            Base::Sheet(sheet) => show_pile(rt, *sheet, &self.layers),
-            Base::Lists(lists) => match lists.vertices() {
-                Vertices::Integer(rows) => show_pile(
-                    rt,
-                    IntegerMesh::new(
-                        lists.triangle_count(),
-                        rows.as_slice(),
-                        lists.corners(),
-                        lists.across(),
-                    ),
-                    &self.layers,
-                ),
-                Vertices::Quadratic(rows) => show_pile(
-                    rt,
-                    QuadraticMesh::new(
-                        lists.triangle_count(),
-                        rows.as_slice(),
-                        lists.corners(),
-                        lists.across(),
-                    ),
-                    &self.layers,
-                ),
-            },
-        }
+        let layers = &self.layers;
+        self.base.on_mesh(Show { rt, layers })
     }
 }
 
-fn show_pile<M: Mesh + Drop>(rt: &HostRuntime, base: M, layers: &Layers) -> Result<(), Stop> {
-    match layers.pile {
-        Pile::Bare => show(rt, &base),
-        Pile::Mirror => show(rt, &Mirrored::new(base)),
-        Pile::Bars => show(rt, &layers.barred(base)),
-        Pile::MirrorBars => show(rt, &layers.barred(Mirrored::new(base))),
-        Pile::BarsMirror => show(rt, &Mirrored::new(layers.barred(base))),
+// Asks whether one bar more would stand.
+#[derive(Clone, Copy)]
+struct TryBar<'a> {
+    layers: &'a Layers,
+    side: HalfEdgeId,
+}
+
+impl<'a> OnMesh for TryBar<'a> {
+    type Answer = Result<(), Refusal>;
+
+    fn on<M: Mesh + Drop>(self, mesh: M) -> Result<(), Refusal> {
+        self.layers.try_bar(mesh, self.side)
+    }
+}
+
+// Shows the mesh under its layers.
+#[derive(Clone, Copy)]
+struct Show<'a> {
+    rt: &'a HostRuntime,
+    layers: &'a Layers,
+}
+
+impl<'a> OnMesh for Show<'a> {
+    type Answer = Result<(), Stop>;
+
+    fn on<M: Mesh + Drop>(self, base: M) -> Result<(), Stop> {
+        // Here too: what lies over a base has another type for each pile.
+        match self.layers.pile {
+            Pile::Bare => show(self.rt, &base),
+            Pile::Mirror => show(self.rt, &Mirrored::new(base)),
+            Pile::Bars => show(self.rt, &self.layers.barred(base)?),
+            Pile::MirrorBars => show(self.rt, &self.layers.barred(Mirrored::new(base))?),
+            Pile::BarsMirror => show(self.rt, &Mirrored::new(self.layers.barred(base)?)),
+        }
     }
 }

@@ -3,14 +3,11 @@
 
 mod command;
 mod current;
-mod described;
-mod layers;
 mod points;
 mod rows;
 mod session;
 mod shown;
 mod stop;
-mod text;
 
 use session::Session;
 use std::io::{BufRead, BufReader};
@@ -30,7 +27,7 @@ fn main(rt: HostRuntime) -> anyhow::Result<ExitCode> {
                 eprintln!(rt; "line {number}: expected {what}")?;
                 return Ok(ExitCode::FAILURE);
             }
-            Err(Stop::Failed(error)) => return Err(error),
+            Err(stop) => return Err(stop.into()),
         }
     }
     Ok(ExitCode::SUCCESS)

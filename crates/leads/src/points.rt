@@ -1,15 +1,13 @@
 // A row of points of one kind, with its turns and its lengths.
-use crate::rows::{Kind, PointRow};
 use crate::stop::Stop;
-use crate::text::{coordinate, length, turn_word};
-use anyhow::anyhow;
-use base::refusals::Refusal;
+use described::rows::{Kind, PointRow};
 use gauge::rows::length_of_row;
 use gauge::supplied::{L1, Maximum, Octagon};
 use geometry::kinds::PointKind;
 use geometry::{IntegerPoint, QuadraticPoint};
 use std::alloc::Global;
 
+// Points that were made, where described vertices are rows that may be refused; an enum, since the kind is known only as the script is read.
 #[derive(Drop)]
 pub enum Points {
     Integer(Vec<IntegerPoint>),
@@ -34,16 +32,8 @@ impl Points {
     // A row of the other kind is no line of a script.
     pub(crate) fn add(&mut self, rt: &HostRuntime, row: PointRow) -> Result<(), Stop> {
         match (self, row) {
-            (Points::Integer(points), PointRow::Integer(row)) => add(
-                rt,
-                points,
-                IntegerPoint::make(row),
-            ),
-            (Points::Quadratic(points), PointRow::Quadratic(row)) => add(
-                rt,
-                points,
-                QuadraticPoint::make(row),
-            ),
+            (Points::Integer(points), PointRow::Integer(row)) => add(rt, points, row),
+            (Points::Quadratic(points), PointRow::Quadratic(row)) => add(rt, points, row),
             _ => Ok(()),
         }
     }
@@ -56,24 +46,13 @@ impl Points {
     }
 }
 
-// A refusal is an answer: it is printed, and nothing is changed.
-fn add<P: PointKind>(
-    rt: &HostRuntime,
-    points: &mut Vec<P>,
-    made: Result<P, Refusal>,
-) -> Result<(), Stop> {
-    match made {
-        Ok(point) => {
-            let number = points.len();
-            let x = coordinate(point.x());
-            let y = coordinate(point.y());
-            if points.push(point).is_err() {
-                return Err(Stop::Failed(anyhow!("there is no memory for one more point")));
-            }
-            println!(rt; "point {number}: ({x}, {y})")?;
-        }
-        Err(refusal) => println!(rt; "{refusal}")?,
-    }
+fn add<P: PointKind>(rt: &HostRuntime, points: &mut Vec<P>, row: P::Row) -> Result<(), Stop> {
+    let point = P::make(row)?;
+    let number = points.len();
+    let x = point.x();
+    let y = point.y();
+    points.push(point).map_err(|_| Stop::PointMemory)?;
+    println!(rt; "point {number}: ({x}, {y})")?;
     Ok(())
 }
 
@@ -85,20 +64,22 @@ fn measure<P: PointKind>(rt: &HostRuntime, points: &[P]) -> Result<(), Stop> {
     }
     println!(rt; "measure: {count} points")?;
     print_turns(rt, points)?;
-    let l1 = length(length_of_row(&L1, points));
+    let l1 = length_of_row(&L1, points);
     println!(rt; "length l1: {l1}")?;
-    let maximum = length(length_of_row(&Maximum, points));
+    let maximum = length_of_row(&Maximum, points);
     println!(rt; "length maximum: {maximum}")?;
-    let octagon = length(length_of_row(&Octagon, points));
+    let octagon = length_of_row(&Octagon, points);
     println!(rt; "length octagon: {octagon}")?;
     Ok(())
 }
 
 fn print_turns<P: PointKind>(rt: &HostRuntime, points: &[P]) -> Result<(), Stop> {
-    for i in 2..points.len() {
-        let turn = turn_word(P::turn(points[i - 2], points[i - 1], points[i]));
-        let at = i - 1;
-        println!(rt; "turn {at}: {turn}")?;
+    for (i, three) in points.windows(3).enumerate() {
+        if let [a, b, c] = three {
+            let turn = P::turn(*a, *b, *c);
+            let at = i + 1;
+            println!(rt; "turn {at}: {turn}")?;
+        }
     }
     Ok(())
 }

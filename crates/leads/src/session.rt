@@ -1,12 +1,12 @@
 // What a script works on: a row of points, the mesh that it describes, and the current mesh.
 use crate::command::{Command, Kinds, parse};
 use crate::current::{Base, Current};
-use crate::described::Described;
 use crate::points::Points;
-use crate::rows::{Kind, PointRow, SheetRow, TriangleRow};
 use crate::stop::Stop;
-use crate::text::kind_word;
 use base::ids::HalfEdgeId;
+use base::refusals::Refusal;
+use described::lists::Described;
+use described::rows::{Kind, PointRow, TriangleRow};
 use meshes::Mesh;
 use meshes::sheets::PerforatedSheet;
 use std::alloc::Global;
@@ -34,23 +34,22 @@ impl Session {
     fn kinds(&self) -> Kinds {
         Kinds {
             row: self.points.kind(),
-            mesh: match &self.described {
-                Some(mesh) => Some(mesh.kind()),
-                None => None,
-            },
+            mesh: self.described.as_ref().map(|mesh| mesh.vertices.kind()),
         }
     }
 
-    // Does what a line says, and prints it.
+    // Does what a line says, and prints it. A refusal is an answer: it is printed too, and nothing is changed.
     pub(crate) fn obey(&mut self, rt: &HostRuntime, line: &str) -> Result<(), Stop> {
-        match parse(self.heap, line, self.kinds())? {
-            Ok(command) => self.act(rt, command),
-            Err(expected) => Err(Stop::Expected(expected)),
+        match self.try_obey(rt, line) {
+            Err(Stop::Refused(refusal)) => println!(rt; "{refusal}")?,
+            Err(Stop::Unsupported(mirror)) => println!(rt; "{mirror}")?,
+            done => return done,
         }
+        Ok(())
     }
 
-    fn act(&mut self, rt: &HostRuntime, command: Command) -> Result<(), Stop> {
-        match command {
+    fn try_obey(&mut self, rt: &HostRuntime, line: &str) -> Result<(), Stop> {
+        match parse(self.heap, line, self.kinds())? {
             Command::Pass => Ok(()),
             Command::SetKind(kind) => self.set_kind(rt, kind),
             Command::AddPoint(row) => self.points.add(rt, row),
@@ -59,7 +58,7 @@ impl Session {
             Command::AddVertex(row) => self.add_vertex(rt, row),
             Command::AddTriangle(row) => self.add_triangle(rt, row),
             Command::Check => self.check(rt),
-            Command::Sheet(row) => self.sheet(rt, row),
+            Command::Sheet(made) => self.sheet(rt, made),
             Command::Mirror => self.mirror(rt),
             Command::Bar(side) => self.bar(rt, side),
             Command::Show => self.show(rt),
@@ -68,21 +67,20 @@ impl Session {
 
     fn set_kind(&mut self, rt: &HostRuntime, kind: Kind) -> Result<(), Stop> {
         self.points = Points::new(self.heap, kind);
-        let kind = kind_word(kind);
         println!(rt; "kind {kind}")?;
         Ok(())
     }
 
     fn begin_mesh(&mut self, rt: &HostRuntime, kind: Kind) -> Result<(), Stop> {
         self.described = Some(Described::new(self.heap, kind));
-        let kind = kind_word(kind);
         println!(rt; "mesh {kind}")?;
         Ok(())
     }
 
     fn add_vertex(&mut self, rt: &HostRuntime, row: PointRow) -> Result<(), Stop> {
         if let Some(mesh) = &mut self.described {
-            let number = mesh.add_vertex(row)?;
+            let number = mesh.vertices.count();
+            mesh.vertices.push(row)?;
             println!(rt; "vertex {number}")?;
         }
         Ok(())
@@ -90,7 +88,8 @@ impl Session {
 
     fn add_triangle(&mut self, rt: &HostRuntime, row: TriangleRow) -> Result<(), Stop> {
         if let Some(mesh) = &mut self.described {
-            let number = mesh.add_triangle(row)?;
+            let number = mesh.triangles;
+            mesh.add_triangle(row)?;
             println!(rt; "triangle {number}")?;
         }
         Ok(())
@@ -98,62 +97,46 @@ impl Session {
 
     fn check(&mut self, rt: &HostRuntime) -> Result<(), Stop> {
         if let Some(mesh) = &self.described {
-            let vertices = mesh.vertex_count();
-            let triangles = mesh.triangle_count();
+            let vertices = mesh.vertices.count();
+            let triangles = mesh.triangles;
             println!(rt; "checked: {vertices} vertices, {triangles} triangles")?;
-            match mesh.check() {
-                Ok(()) => {
-                    let base = Base::Lists(mesh.copied(self.heap)?);
-                    self.current = Some(Current::new(self.heap, base));
-                    println!(rt; "sound")?;
-                }
-                Err(refusal) => println!(rt; "{refusal}")?,
-            }
+            mesh.check()?;
+            self.current = Some(Current::new(self.heap, Base::Lists(mesh.clone()?)));
+            println!(rt; "sound")?;
         }
         Ok(())
     }
 
-    fn sheet(&mut self, rt: &HostRuntime, row: SheetRow) -> Result<(), Stop> {
-        match PerforatedSheet::new(row.columns, row.rows, row.pitch) {
-            Ok(sheet) => {
-                let triangles = sheet.triangles();
-                let vertices = sheet.vertices();
-                self.current = Some(Current::new(self.heap, Base::Sheet(sheet)));
-                println!(rt; "sheet: {triangles} triangles, {vertices} vertices")?;
-            }
-            Err(refusal) => println!(rt; "{refusal}")?,
-        }
+    fn sheet(
+        &mut self,
+        rt: &HostRuntime,
+        made: Result<PerforatedSheet, Refusal>,
+    ) -> Result<(), Stop> {
+        let sheet = made?;
+        let triangles = sheet.triangles();
+        let vertices = sheet.vertices();
+        self.current = Some(Current::new(self.heap, Base::Sheet(sheet)));
+        println!(rt; "sheet: {triangles} triangles, {vertices} vertices")?;
         Ok(())
     }
 
     fn mirror(&mut self, rt: &HostRuntime) -> Result<(), Stop> {
-        let Some(mesh) = &mut self.current else {
-            return Err(Stop::Expected(NO_MESH));
-        };
-        if mesh.mirror() {
-            println!(rt; "mirror")?;
-        } else {
-            println!(rt; "unsupported: a second mirror over a mesh")?;
-        }
+        let mesh = self.current.as_mut().ok_or(Stop::Expected(NO_MESH))?;
+        mesh.mirror()?;
+        println!(rt; "mirror")?;
         Ok(())
     }
 
     fn bar(&mut self, rt: &HostRuntime, side: HalfEdgeId) -> Result<(), Stop> {
-        let Some(mesh) = &mut self.current else {
-            return Err(Stop::Expected(NO_MESH));
-        };
+        let mesh = self.current.as_mut().ok_or(Stop::Expected(NO_MESH))?;
+        mesh.bar(side)?;
         let code = side.0;
-        match mesh.bar(side)? {
-            Ok(()) => println!(rt; "bar {code}")?,
-            Err(refusal) => println!(rt; "{refusal}")?,
-        }
+        println!(rt; "bar {code}")?;
         Ok(())
     }
 
     fn show(&self, rt: &HostRuntime) -> Result<(), Stop> {
-        match &self.current {
-            Some(mesh) => mesh.show(rt),
-            None => Err(Stop::Expected(NO_MESH)),
-        }
+        let mesh = self.current.as_ref().ok_or(Stop::Expected(NO_MESH))?;
+        mesh.show(rt)
     }
 }

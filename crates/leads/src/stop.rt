@@ -1,21 +1,23 @@
-// Why a script ends early.
+// Why a line of a script is not done.
+use base::refusals::Refusal;
+use described::layers::SecondMirror;
 use std::alloc::AllocError;
 use std::io;
+use thiserror::Error;
 
-#[derive(Drop)]
+// The first two are answers: they are printed, and the script goes on.
+#[derive(Debug, Drop, Error)]
 pub enum Stop {
+    #[error(transparent)]
+    Refused(#[from] Refusal),
+    #[error(transparent)]
+    Unsupported(#[from] SecondMirror),
+    #[error("expected {0}")]
     Expected(&'static str),
-    Failed(anyhow::Error),
-}
-
-impl From<AllocError> for Stop {
-    fn from(e: AllocError) -> Stop {
-        Stop::Failed(e.into())
-    }
-}
-
-impl From<io::Error> for Stop {
-    fn from(e: io::Error) -> Stop {
-        Stop::Failed(e.into())
-    }
+    #[error("there is no memory for one more point")]
+    PointMemory,
+    #[error(transparent)]
+    Memory(#[from(alloc)] AllocError),
+    #[error(transparent)]
+    Io(#[from] io::Error),
 }

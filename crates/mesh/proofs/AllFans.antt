@@ -1,28 +1,31 @@
 -- Walking from every first corner marks exactly the corners of open fans; and the smallest corner that comes round is the first at which the rule on full turns fails.
-use Rattle.std.proofs.Common.{◌≡◌, ℕ, ◌+◌, ◌*◌, ◌<◌, ◌≤◌, Bool, ◌⊎◌, List, Some, None, sym, ap, subst, inl, inr, arith}
+use Rattle.std.proofs.Common.{◌≡◌, ◌+◌, ◌*◌, ◌<◌, ◌≤◌, Bool, ◌⊎◌, List, Some, None, Option, IfSome, sym, ap, subst, inl, inr, arith}
 use Rattle.std.proofs.lemmas.Bool.Decides.{leb_tells}
 use Rattle.base.specs.declared.ids.HalfEdgeId.{HalfEdgeId}
 use Rattle.base.specs.Ids.{half_edge, next}
 use Rattle.mesh.specs.Surface.{Surface, Later, Covers}
 use Rattle.mesh.specs.Sound.{Paired, FallsShort, AtEach}
-use Rattle.mesh.specs.Stages.{Starts, InFan, Marked, Fresh, Fanned, WalkedTo, Walked}
+use Rattle.mesh.specs.Stages.{Starts, InFan, AtMost, Marked, Fresh, Fanned, WalkedTo, Walked}
 use Rattle.mesh.specs.Verdict.{FirstBad}
-use Rattle.mesh.proofs.FanSteps.{some_none, later_back, later_inside, fan_opens, opens_fan}
+use Rattle.mesh.proofs.FanSteps.{some_none, later_within, later_back, later_inside, fan_opens, opens_fan}
 
 split : (s h : HalfEdgeId) → s.0 < h.0 + 1 → (s.0 < h.0) ⊎ (s ≡ h)
 split s h b =
     elim (leb_tells (s.0 + 1) h.0) [ inl k ↦ inl (omega (arith, k.1)) | inr k ↦ inr (ap half_edge (omega (arith, k.1))) ]
 
-module _ (f : Surface) (pairs : AtEach f Paired) (n : ℕ) where
-  pub none_yet : (m : List Bool) → ((x : HalfEdgeId) → Marked m x → ⊥) → WalkedTo f 0 n m n
+abbrev Round : Surface → HalfEdgeId → Type 0
+Round f x = (s : HalfEdgeId) × Starts f s × Later f s x × Covers f s x
+
+module _ (f : Surface) (pairs : AtEach f Paired) where
+  pub none_yet : (m : List Bool) → ((x : HalfEdgeId) → Marked m x → ⊥) → WalkedTo f 0 m None
   none_yet m blank = record {
     all = λ s x b. absurd (omega arith);
     only = λ x k. absurd (blank x k);
-    round = λ b. absurd (omega arith);
+    round = tt;
     least = λ s x b. absurd (omega arith);
   }
 
-  module _ (h : HalfEdgeId) (m : List Bool) (r : ℕ) (w : WalkedTo f h.0 n m r) where
+  module _ (h : HalfEdgeId) (m : List Bool) (r : Option HalfEdgeId) (w : WalkedTo f h.0 m r) where
     pub fresh : Starts f h → Fresh f m h
     fresh b = record {
       unmarked = λ k.
@@ -39,17 +42,17 @@ module _ (f : Surface) (pairs : AtEach f Paired) (n : ℕ) where
           ];
     }
 
-    pub passed : (d : HalfEdgeId) → f.twin h ≡ Some d → WalkedTo f (h.0 + 1) n m r
-    passed d t = record {
+    pub passed : (f.twin h ≡ None → ⊥) → WalkedTo f (h.0 + 1) m r
+    passed led = record {
       all = λ s x b st i.
-          elim (split s h b) [ inl k ↦ w.all s x k st i | inr same ↦ absurd (some_none t (subst (λ y. f.twin y ≡ None) same st.rim)) ];
+          elim (split s h b) [ inl k ↦ w.all s x k st i | inr same ↦ absurd (led (subst (λ y. f.twin y ≡ None) same st.rim)) ];
       only = λ x k. let o = w.only x k in (o.0, omega (arith, o.1), o.2, o.3);
       round = w.round;
       least = λ s x b st l c.
-          elim (split s h b) [ inl k ↦ w.least s x k st l c | inr same ↦ absurd (some_none t (subst (λ y. f.twin y ≡ None) same st.rim)) ];
+          elim (split s h b) [ inl k ↦ w.least s x k st l c | inr same ↦ absurd (led (subst (λ y. f.twin y ≡ None) same st.rim)) ];
     }
 
-    pub walked : Starts f h → (m' : List Bool) (q r' : ℕ) → Fanned f h n m m' q → (r' ≡ r) ⊎ (r' ≡ q) → r' ≤ r → r' ≤ q → WalkedTo f (h.0 + 1) n m' r'
+    pub walked : Starts f h → (m' : List Bool) (q r' : Option HalfEdgeId) → Fanned f h m m' q → (r' ≡ r) ⊎ (r' ≡ q) → ((x : HalfEdgeId) → AtMost r x → AtMost r' x) → ((x : HalfEdgeId) → AtMost q x → AtMost r' x) → WalkedTo f (h.0 + 1) m' r'
     walked first m' q r' a which low low' = record {
       all = λ s x b st i.
           elim (split s h b) [ inl k ↦ a.kept x (w.all s x k st i) | inr same ↦ a.all x (subst (λ y. InFan f y x) same i) ];
@@ -58,34 +61,35 @@ module _ (f : Surface) (pairs : AtEach f Paired) (n : ℕ) where
             | inl old ↦ let o = w.only x old in (o.0, omega (arith, o.1), o.2, o.3)
             | inr new ↦ (h, omega arith, first, new)
           ];
-      round = λ b.
+      round =
           elim which [
-            | inl same ↦ let o = w.round (omega arith) in subst (λ i. (s : HalfEdgeId) × Starts f s × Later f s (half_edge i) × Covers f s (half_edge i)) (sym same) o
-            | inr same ↦ let o = a.round (omega arith) in subst (λ i. (s : HalfEdgeId) × Starts f s × Later f s (half_edge i) × Covers f s (half_edge i)) (sym same) (h, first, o.0, o.1)
+            | inl same ↦ subst (λ o. IfSome o (Round f)) (sym same) w.round
+            | inr same ↦ subst (λ o. IfSome o (Round f)) (sym same) (rounds q a.round)
           ];
       least = λ s x b st l c.
           elim (split s h b) [
-            | inl k ↦ omega (arith, w.least s x k st l c)
-            | inr same ↦ omega (arith, a.least x (subst (λ y. Later f y x) same l) (subst (λ y. Covers f y x) same c))
+            | inl k ↦ low x (w.least s x k st l c)
+            | inr same ↦ low' x (a.least x (subst (λ y. Later f y x) same l) (subst (λ y. Covers f y x) same c))
           ];
     }
+      where
+        rounds : (o : Option HalfEdgeId) → IfSome o (λ x. Later f h x × Covers f h x) → IfSome o (Round f)
+        rounds None t = tt
+        rounds (Some x) t = (h, first, t.0, t.1)
 
-  module _ (whole : n ≡ 3 * f.F) (m : List Bool) (r : ℕ) (w : WalkedTo f n n m r) where
-    pub all_walked : Walked f m
-    all_walked = record {
-      opened = λ x b o.
-          let s = opens_fan f pairs b o in
-          w.all s.0 x (omega (arith, s.1.has)) s.1 s.2;
-      only = λ x b k. let o = w.only x k in fan_opens f pairs o.2 o.3;
-    }
+  pub all_walked : (m : List Bool) (r : Option HalfEdgeId) → WalkedTo f (3 * f.F) m r → Walked f m
+  all_walked m r w = record {
+    opened = λ x b o.
+        let s = opens_fan f pairs b o in
+        w.all s.0 x s.1.has s.1 s.2;
+    only = λ x b k. let o = w.only x k in fan_opens f pairs o.2 o.3;
+  }
 
-    pub first_round : r < n → FirstBad (λ k. FallsShort f (half_edge k)) n (Some r)
-    first_round b =
-        let o = w.round b in (
-          b,
-          (λ short. short o.0 o.1.has o.1.rim o.2 o.3),
-          (λ k small s has rim l c. let le = w.least s (half_edge k) (omega arith) (record { has = has; rim = rim }) l c in omega arith),
-        )
-
-    pub none_round : n ≤ r → FirstBad (λ k. FallsShort f (half_edge k)) n None
-    none_round b k small s has rim l c = let le = w.least s (half_edge k) (omega arith) (record { has = has; rim = rim }) l c in omega arith
+  pub first_round : (m : List Bool) (r : Option HalfEdgeId) → WalkedTo f (3 * f.F) m r → FirstBad (λ x. x.0) (FallsShort f) (3 * f.F) r
+  first_round m None w = λ x b s has rim l c. w.least s x has (record { has = has; rim = rim }) l c
+  first_round m (Some q) w =
+      let o = w.round in (
+        later_within f pairs o.1.has o.2,
+        (λ short. short o.0 o.1.has o.1.rim o.2 o.3),
+        (λ x small s has rim l c. let le : q.0 ≤ x.0 = w.least s x has (record { has = has; rim = rim }) l c in omega arith),
+      )

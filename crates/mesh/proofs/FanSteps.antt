@@ -1,6 +1,6 @@
 -- Where sides are paired, going on and going back in a fan undo each other.
 -- A corner is in the fan of a first corner exactly where its fan is open, and no corner of a fan but the first has boundary behind it.
-use Rattle.std.proofs.Common.{◌≡◌, ℕ, ◌⊎◌, Some, None, Option, sym, refl, ap, ◌∙◌, subst, inl, inr, arith}
+use Rattle.std.proofs.Common.{◌≡◌, ℕ, ◌⊎◌, Some, None, Option, is_some, true, sym, refl, ap, ◌∙◌, subst, inl, inr, arith}
 use Rattle.base.specs.declared.ids.HalfEdgeId.{HalfEdgeId}
 use Rattle.base.specs.Ids.{half_edge, next, previous}
 use Rattle.mesh.specs.Surface.{Surface, Has, on, Later, one, more, Opens, edge, across}
@@ -27,6 +27,9 @@ some_same p q = cc
 
 pub some_none : {X : Type 0} {o : Option X} {a : X} → o ≡ Some a → o ≡ None → ⊥
 some_none p q = let z : ◌≡◌ {A = ℕ} 0 1 = cc in omega arith
+
+pub some_not_none : {X : Type 0} {o : Option X} → is_some o ≡ true → o ≡ None → ⊥
+some_not_none t z = let e : ◌≡◌ {A = ℕ} 0 1 = cc in omega arith
 
 pub later_none : {f : Surface} {s x : HalfEdgeId} → Later f s x → on f s ≡ None → ⊥
 later_none (one e) z = some_none e z

@@ -1,15 +1,15 @@
 -- The walk round one vertex: it never enters a marked corner, so it ends, and then it has marked the whole fan and nothing else.
-use Rattle.std.proofs.Common.{◌≡◌, ℕ, ◌<◌, ◌≤◌, Bool, true, ◌⊎◌, List, length, set, Some, None, sym, refl, ap, ◌∙◌, subst, inl, inr, arith}
+use Rattle.std.proofs.Common.{◌≡◌, ◌<◌, Bool, true, ◌⊎◌, List, length, set, Some, None, Option, IfSome, sym, refl, ap, ◌∙◌, subst, inl, inr}
 use Rattle.base.specs.declared.ids.HalfEdgeId.{HalfEdgeId}
-use Rattle.base.specs.Ids.{half_edge, next, previous}
+use Rattle.base.specs.Ids.{next, previous}
 use Rattle.mesh.specs.Surface.{Surface, Has, on, Later, Covers}
 use Rattle.mesh.specs.Sound.{Paired, AtEach}
-use Rattle.mesh.specs.Stages.{Starts, InFan, Marked, Fresh, Fanned}
+use Rattle.mesh.specs.Stages.{Starts, InFan, AtMost, Marked, Fresh, Fanned}
 use Rattle.mesh.proofs.FanSteps.{next_previous, previous_same, some_same, some_none, later_none, later_split, back, on_within, fan_on}
-use Rattle.mesh.proofs.Marks.{mark_this, mark_old, mark_which}
+use Rattle.mesh.proofs.MarkedCorners.{mark_this, mark_old, mark_which}
 
--- the walk from s has come to h: before it the marks were m₀, now they are m, and r is the smallest corner so far that comes round, or n
-pub record Walking (f : Surface) (s : HalfEdgeId) (n : ℕ) (m₀ m : List Bool) (h : HalfEdgeId) (r : ℕ) : Type 0 where
+-- the walk from s has come to h: before it the marks were m₀, now they are m
+pub record Walking (f : Surface) (s : HalfEdgeId) (m₀ m : List Bool) (h : HalfEdgeId) : Type 0 where
   pub has : Has f h
   pub reached : InFan f s h
   pub marked : Marked m h
@@ -18,16 +18,19 @@ pub record Walking (f : Surface) (s : HalfEdgeId) (n : ℕ) (m₀ m : List Bool)
   pub only : (x : HalfEdgeId) → Marked m x → Marked m₀ x ⊎ InFan f s x
   pub backs : (x d : HalfEdgeId) → Marked m x → f.twin x ≡ Some d → Marked m (next d)
   pub fresh : (d : HalfEdgeId) → on f h ≡ Some d → Marked m d → ⊥
-  pub round : r < n → Later f s (half_edge r) × Covers f s (half_edge r)
-  pub least : (x : HalfEdgeId) → Later f s x → Covers f s x → (r ≤ x.0) ⊎ Later f h x
 
-module _ (f : Surface) (pairs : AtEach f Paired) (s : HalfEdgeId) (n : ℕ) (m₀ : List Bool) where
+-- r is the smallest corner from s to h that comes round, if one does
+pub record Found (f : Surface) (s h : HalfEdgeId) (r : Option HalfEdgeId) : Type 0 where
+  pub round : IfSome r (λ q. Later f s q × Covers f s q)
+  pub least : (x : HalfEdgeId) → Later f s x → Covers f s x → AtMost r x ⊎ Later f h x
+
+module _ (f : Surface) (pairs : AtEach f Paired) (s : HalfEdgeId) (m₀ : List Bool) where
   -- a marked corner that is entered from g has g marked
   entered : (m : List Bool) (g e : HalfEdgeId) → ((x d : HalfEdgeId) → Marked m x → f.twin x ≡ Some d → Marked m (next d)) → Has f g → on f g ≡ Some e → Marked m e → Marked m g
   entered m g e closed w o k = subst (Marked m) (next_previous g) (closed e (previous g) k (back f pairs g e w o))
 
   -- the first corner has just been marked; its mark counts as an old one until the walk has ended
-  pub begin : Starts f s → Fresh f m₀ s → s.0 < length m₀ → Walking f s n (set m₀ s.0 true) (set m₀ s.0 true) s n
+  pub begin : Starts f s → Fresh f m₀ s → s.0 < length m₀ → Walking f s (set m₀ s.0 true) (set m₀ s.0 true) s
   begin b u room = record {
     has = b.has;
     reached = inl refl;
@@ -45,11 +48,12 @@ module _ (f : Surface) (pairs : AtEach f Paired) (s : HalfEdgeId) (n : ℕ) (m�
           | inl same ↦ some_none (subst (λ y. f.twin y ≡ Some (previous s)) same (back f pairs s d b.has o)) b.rim
           | inr old ↦ u.unmarked (entered m₀ s d u.backs b.has o old)
         ];
-    round = λ h. absurd (omega arith);
-    least = λ x l c. inr l;
   }
 
-  pub whole : (m : List Bool) (r : ℕ) → s.0 < length m₀ → Fanned f s n (set m₀ s.0 true) m r → Fanned f s n m₀ m r
+  pub begin_found : Found f s s None
+  begin_found = record { round = tt; least = λ x l c. inr l }
+
+  pub whole : (m : List Bool) (r : Option HalfEdgeId) → s.0 < length m₀ → Fanned f s (set m₀ s.0 true) m r → Fanned f s m₀ m r
   whole m r room a = record {
     kept = λ x k. a.kept x (mark_old m₀ s room x k);
     all = a.all;
@@ -62,11 +66,9 @@ module _ (f : Surface) (pairs : AtEach f Paired) (s : HalfEdgeId) (n : ℕ) (m�
     least = a.least;
   }
 
-  module _ (m : List Bool) (h : HalfEdgeId) (r : ℕ) (w : Walking f s n m₀ m h r) where
-    pub step : (d : HalfEdgeId) (q : ℕ) → on f h ≡ Some d → d.0 < length m
-        → (q ≡ r) ⊎ ((q ≡ d.0) × Covers f s d) → q ≤ r → (Covers f s d → q ≤ d.0)
-        → Walking f s n m₀ (set m d.0 true) d q
-    step d q o room which less here =
+  module _ (m : List Bool) (h : HalfEdgeId) (w : Walking f s m₀ m h) where
+    pub step : (d : HalfEdgeId) → on f h ≡ Some d → d.0 < length m → Walking f s m₀ (set m d.0 true) d
+    step d o room =
         let next_one : Later f s d = fan_on f pairs w.reached o in
         record {
           has = on_within f pairs h d w.has o;
@@ -98,26 +100,32 @@ module _ (f : Surface) (pairs : AtEach f Paired) (s : HalfEdgeId) (n : ℕ) (m�
                     w.marked)
                 | inr old ↦ w.fresh d o (entered m d e w.backs (on_within f pairs h d w.has o) p old)
               ];
-          round = λ small.
-              elim which [
-                | inl same ↦ subst (λ i. Later f s (half_edge i) × Covers f s (half_edge i)) (sym same) (w.round (omega arith))
-                | inr new ↦ subst (λ i. Later f s (half_edge i) × Covers f s (half_edge i)) (sym new.0) (next_one, new.1)
-              ];
-          least = λ x l c.
-              elim (w.least x l c) [
-                | inl before ↦ inl (omega arith)
-                | inr after ↦ elim (later_split o after) [
-                  | inl same ↦ inl (subst (λ y. q ≤ y.0) (sym same) (here (subst (Covers f s) same c)))
-                  | inr on_after ↦ inr on_after
-                ]
-              ];
         }
 
-    pub ended : on f h ≡ None → Fanned f s n m₀ m r
-    ended z = record {
+    pub step_found : (d : HalfEdgeId) (r q : Option HalfEdgeId) → Found f s h r → on f h ≡ Some d
+        → (q ≡ r) ⊎ ((q ≡ Some d) × Covers f s d) → ((x : HalfEdgeId) → AtMost r x → AtMost q x) → (Covers f s d → AtMost q d)
+        → Found f s d q
+    step_found d r q found o which less here = record {
+      round =
+          elim which [
+            | inl same ↦ subst (λ c. IfSome c (λ x. Later f s x × Covers f s x)) (sym same) found.round
+            | inr new ↦ subst (λ c. IfSome c (λ x. Later f s x × Covers f s x)) (sym new.0) (fan_on f pairs w.reached o, new.1)
+          ];
+      least = λ x l c.
+          elim (found.least x l c) [
+            | inl before ↦ inl (less x before)
+            | inr after ↦ elim (later_split o after) [
+              | inl same ↦ inl (subst (AtMost q) (sym same) (here (subst (Covers f s) same c)))
+              | inr on_after ↦ inr on_after
+            ]
+          ];
+    }
+
+    pub ended : (r : Option HalfEdgeId) → Found f s h r → on f h ≡ None → Fanned f s m₀ m r
+    ended r found z = record {
       kept = w.kept;
       all = λ x i. elim (w.done x i) [ inl k ↦ k | inr l ↦ absurd (later_none l z) ];
       only = w.only;
-      round = w.round;
-      least = λ x l c. elim (w.least x l c) [ inl k ↦ k | inr after ↦ absurd (later_none after z) ];
+      round = found.round;
+      least = λ x l c. elim (found.least x l c) [ inl k ↦ k | inr after ↦ absurd (later_none after z) ];
     }

@@ -6,7 +6,7 @@ use Rattle.mesh.specs.Surface.{Surface, on, Later, one, more, Ends, edge_ahead, 
 use Rattle.mesh.specs.Sound.{Paired, AtEach, FansEnd}
 use Rattle.mesh.specs.Stages.{Starts}
 use Rattle.mesh.proofs.FanSteps.{some_same, some_none, on_within, opens_fan}
-use Rattle.mesh.proofs.Marks.{unmarked, fewer, none_marked}
+use Rattle.mesh.proofs.MarkedCorners.{unmarked, fewer, none_marked}
 use Rattle.mesh.proofs.FanWalk.{Walking, begin, step}
 
 -- the corner that follows, or none
@@ -24,8 +24,8 @@ module _ (f : Surface) (pairs : AtEach f Paired) where
   later_ends a (one e) = next_ends a e
   later_ends a (more l e) = next_ends (later_ends a l) e
 
-  -- by the number of corners that are not yet marked; what comes round does not matter here, so the walk keeps 0 for it
-  walk_ends : (left : ℕ) (s h : HalfEdgeId) (m₀ m : List Bool) → unmarked m < left → 3 * f.F ≤ length m → Walking f s 0 m₀ m h 0 → Ends f h
+  -- by the number of corners that are not yet marked
+  walk_ends : (left : ℕ) (s h : HalfEdgeId) (m₀ m : List Bool) → unmarked m < left → 3 * f.F ≤ length m → Walking f s m₀ m h → Ends f h
   walk_ends zero s h m₀ m few room w = absurd (omega arith)
   walk_ends (suc left) s h m₀ m few room w =
       elim (known (on f h)) [
@@ -36,7 +36,7 @@ module _ (f : Surface) (pairs : AtEach f Paired) where
             let fewer_left : unmarked (set m d.0 true) < unmarked m = fewer m d.0 there (w.fresh d go.1) in
             ahead go.1
             (walk_ends left s d m₀ (set m d.0 true) (omega arith) (simp length-set room)
-            (step f pairs s 0 m₀ m h 0 w d 0 go.1 there (inl refl) (omega arith) (λ c. omega arith)))
+            (step f pairs s m₀ m h w d go.1 there))
       ]
 
   first_ends : (s : HalfEdgeId) → Starts f s → Ends f s
@@ -44,7 +44,7 @@ module _ (f : Surface) (pairs : AtEach f Paired) where
       let m = replicate (3 * f.F) false in
       let room : s.0 < length m = simp length-replicate b.has in
       walk_ends (1 + unmarked (set m s.0 true)) s s (set m s.0 true) (set m s.0 true) (omega arith) (simp (length-set, length-replicate) (omega arith))
-      (begin f pairs s 0 m b (record { unmarked = none_marked (3 * f.F) s; backs = λ x d k t. absurd (none_marked (3 * f.F) x k) }) room)
+      (begin f pairs s m b (record { unmarked = none_marked (3 * f.F) s; backs = λ x d k t. absurd (none_marked (3 * f.F) x k) }) room)
 
 pub fans_end : FansEnd
 fans_end f sound h w =

@@ -1,9 +1,11 @@
-pub mod ReadRows
 pub mod FanSteps
-pub mod Marks
+pub mod FirstFound
+pub mod Settled
+pub mod ReadRows
+pub mod MarkedCorners
 pub mod FanWalk
 pub mod AllFans
 pub mod FirstRefusal
-pub mod ListStages
+pub mod OpenFans
 pub mod FansEnding
 pub mod OneVerdict

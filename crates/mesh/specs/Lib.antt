@@ -3,3 +3,4 @@ pub mod Sound
 pub mod Lists
 pub mod Verdict
 pub mod Stages
+pub mod MeshLists

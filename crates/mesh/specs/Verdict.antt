@@ -4,7 +4,7 @@
 -- Refused     the refusal tells the truth, and it is the first that does
 -- Verdict     the answer of a validation: accepted, or refused so
 -- VerdictsAgree   two verdicts on the same lists are the same: a verdict says which lists are accepted, and of all others which refusal they get
--- FirstBad    of places from 0 on: the first that is not good, or none, if all below n are good
+-- FirstBad    of triangles, vertices or half-edges by their numbers, from 0 on: the first that is not good, or none, if all below n are good
 use Rattle.std.specs.Prelude.{◌≡◌, ℕ, ◌<◌, ◌≤◌, ◌⊎◌, length, Some, None, Ok, Err, Option, Result}
 use Rattle.base.specs.declared.ids.TriangleId.{TriangleId}
 use Rattle.base.specs.declared.ids.VertexId.{VertexId}
@@ -45,6 +45,6 @@ Verdict l (Err e) = Refused l e
 abbrev pub VerdictsAgree : Type 0
 VerdictsAgree = (l : Lists) (r s : Result (Unit {0}) Refusal) → Verdict l r → Verdict l s → r ≡ s
 
-abbrev pub FirstBad : (ℕ → Type 0) → ℕ → Option ℕ → Type 0
-FirstBad Good n None = (k : ℕ) → k < n → Good k
-FirstBad Good n (Some i) = (i < n) × (Good i → ⊥) × ((k : ℕ) → k < i → Good k)
+abbrev pub FirstBad : {I : Type 0} → (I → ℕ) → (I → Type 0) → ℕ → Option I → Type 0
+FirstBad {I} at Good n None = (x : I) → at x < n → Good x
+FirstBad {I} at Good n (Some i) = (at i < n) × (Good i → ⊥) × ((x : I) → at x < at i → Good x)

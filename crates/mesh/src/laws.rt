@@ -1,17 +1,13 @@
-// Theorems about sound surfaces and verdicts. Each call is a statement with its proof; what it returns says nothing.
+// Theorems about sound surfaces and verdicts. Each call is a statement with its proof.
 ghost use Rattle.mesh.specs.Sound.{FansEnd};
 ghost use Rattle.mesh.specs.Verdict.{VerdictsAgree};
 
 // Going on in a fan comes to an end, as going back does.
-pub fn fans_end() -> u8
+pub fn fans_end()
     ensures { FansEnd }
-{
-    0
-}
+{}
 
 // The contract of a validation leaves one answer for each lists.
-pub fn verdicts_agree() -> u8
+pub fn verdicts_agree()
     ensures { VerdictsAgree }
-{
-    0
-}
+{}

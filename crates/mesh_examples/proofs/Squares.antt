@@ -93,8 +93,11 @@ round _ at_5 = (half_edge 1, refl, at_2)
 pub closed_refused : Refused closed_lists (ClosedFan (half_edge 2) (vertex 4))
 closed_refused =
     refuse_fan closed_lists (limits closed refl) (λ v b. ranges closed v.0 b) (λ h b. below closed h.0 b) (λ t b. turns closed t.0 b)
-    (λ h b. closed_pairs h.0 b) 2
-    (lit< tt, never_opens (listed closed_lists) Middle round (half_edge 2) at_2, each (λ k. Opens (listed closed_lists) (half_edge k)) 2 (tt ▸ edge refl ▸ across refl (edge refl)))
+    (λ h b. closed_pairs h.0 b) (half_edge 2) (
+      lit< tt,
+      never_opens (listed closed_lists) Middle round (half_edge 2) at_2,
+      (λ h b. each (λ k. Opens (listed closed_lists) (half_edge k)) 2 (tt ▸ edge refl ▸ across refl (edge refl)) h.0 b),
+    )
 
 slit_pairs : Below (λ k. Paired (listed slit_lists) (half_edge k)) 12
 slit_pairs =
@@ -156,8 +159,8 @@ slit_covers = ((λ e. let z : ◌≡◌ {A = ℕ} 0 1 = cc in omega arith), (λ 
 pub slit_refused : Refused slit_lists (FullTurn (half_edge 11) (vertex 4))
 slit_refused =
     refuse_span slit_lists (limits slit refl) (λ v b. ranges slit v.0 b) (λ h b. below slit h.0 b) (λ t b. turns slit t.0 b)
-    all_slit_pairs (λ h b. slit_opens h.0 b) 11
-    (lit< tt, (λ short. short (half_edge 2) (lit< tt) refl (more (more (one refl) refl) refl) slit_covers), slit_shorts)
+    all_slit_pairs (λ h b. slit_opens h.0 b) (half_edge 11)
+    (lit< tt, (λ short. short (half_edge 2) (lit< tt) refl (more (more (one refl) refl) refl) slit_covers), (λ h b. slit_shorts h.0 b))
 
 pair_limits : Limits pair_lists
 pair_limits = record { some_triangles = lit≤ tt; few_triangles = lit≤ tt; some_vertices = lit≤ tt; few_vertices = lit≤ tt; all_corners = refl; all_sides = refl }

@@ -1,16 +1,19 @@
 // Small meshes and what becomes of them.
 #![tactic(auto)]
 
-ghost use Rattle.std.specs.Prelude.{◌≡◌, Ok, Err};
+ghost use Rattle.std.specs.Prelude.{◌≡◌, map, Ok, Err};
 ghost use Rattle.base.specs.Ids.{vertex, half_edge};
 ghost use Rattle.base.specs.declared.refusals.Refusal.TheVariants.{ClosedFan, FullTurn};
+ghost use Rattle.geometry.specs.Points.{integer_row};
+ghost use Rattle.mesh.specs.Lists.{lists};
+ghost use Rattle.mesh.specs.MeshLists.{meant};
 
 use base::ids::{HalfEdgeId, VertexId};
 use base::refusals::Refusal;
 use geometry::{IntegerPoint, IntegerRow};
-use mesh::validation::validate;
+use mesh::lists::MeshLists;
 
-const NONE: HalfEdgeId = HalfEdgeId(65_535);
+const NONE: HalfEdgeId = HalfEdgeId::BOUNDARY;
 
 // The corners of a square and its middle.
 const POINTS: [IntegerRow; 5] = [
@@ -37,6 +40,18 @@ const CORNERS: [VertexId; 12] = [
     VertexId(4),
 ];
 
+// The square of four triangles with these codes across.
+fn round_the_middle(across: &[HalfEdgeId]) -> MeshLists<'_, IntegerPoint>
+    ensures { meant integer_row result ≡ lists 4 (map integer_row POINTS) CORNERS across.now }
+{
+    MeshLists {
+        triangles: 4,
+        rows: &POINTS,
+        corners: &CORNERS,
+        across,
+    }
+}
+
 // All sides at the middle are portals: the triangles close up round it.
 pub fn closed_square() -> Result<(), Refusal>
     ensures { result ≡ Err (ClosedFan (half_edge 2) (vertex 4)) }
@@ -55,7 +70,7 @@ pub fn closed_square() -> Result<(), Refusal>
         HalfEdgeId(2),
         HalfEdgeId(7),
     ];
-    validate::<IntegerPoint>(4, &POINTS, &CORNERS, &across)
+    round_the_middle(&across).validate()
 }
 
 // The side between vertex 0 and the middle is boundary from both sides: the triangles come all the way round to it.
@@ -76,7 +91,7 @@ pub fn slit_square() -> Result<(), Refusal>
         NONE,
         HalfEdgeId(7),
     ];
-    validate::<IntegerPoint>(4, &POINTS, &CORNERS, &across)
+    round_the_middle(&across).validate()
 }
 
 // The square cut along one diagonal is a sound mesh.
@@ -98,5 +113,11 @@ pub fn halved_square() -> Result<(), Refusal>
         VertexId(3),
     ];
     let across = [NONE, NONE, HalfEdgeId(3), HalfEdgeId(2), NONE, NONE];
-    validate::<IntegerPoint>(2, &rows, &corners, &across)
+    MeshLists::<IntegerPoint> {
+        triangles: 2,
+        rows: &rows,
+        corners: &corners,
+        across: &across,
+    }
+    .validate()
 }

@@ -7,10 +7,8 @@ ghost use Rattle.surfaces.specs.Layers.{mirrored, barred};
 use crate::Mesh;
 
 // Mirrored or barred a mesh is sound, and mirrored twice it means the same surface again.
-pub fn layers_stand<M: Mesh>() -> u8
+pub fn layers_stand<M: Mesh>()
     ensures mirrored { (m : M) → Lawful (mirrored (M.surface m)) }
     ensures barred { (m : M) (bars : List Side) → Lawful (barred bars (M.surface m)) }
     ensures twice { (m : M) → Alike (mirrored (mirrored (M.surface m))) (M.surface m) }
-{
-    0
-}
+{}

@@ -9,11 +9,10 @@ use base::ids::{HalfEdgeId, TriangleId, VertexId};
 use geometry::kinds::PointKind;
 
 pub mod bars;
-pub mod integers;
+pub mod indexed;
 pub mod laws;
 mod lists;
 pub mod mirrors;
-pub mod quadratics;
 pub mod samples;
 pub mod sheets;
 

@@ -8,11 +8,7 @@ use base::ids::{HalfEdgeId, TriangleId, VertexId};
 fn vertex_at(corners: &[VertexId], place: usize) -> VertexId
     ensures { result ≡ slice_index_or corners.now place (vertex 0) }
 {
-    if place < corners.len() {
-        corners[place]
-    } else {
-        VertexId(0)
-    }
+    corners.get(place).copied().unwrap_or(VertexId(0))
 }
 
 // The vertices at the three corners of a triangle.
@@ -33,10 +29,5 @@ pub fn corners_at(corners: &[VertexId], t: TriangleId) -> [VertexId; 3]
 pub fn twin_at(across: &[HalfEdgeId], h: HalfEdgeId) -> Option<HalfEdgeId>
     ensures { result ≡ leads (slice_index_or across.now h.0 boundary) }
 {
-    let place = h.0 as usize;
-    if place < across.len() {
-        across[place].leads()
-    } else {
-        None
-    }
+    across.get(h.place())?.leads()
 }

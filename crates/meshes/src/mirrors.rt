@@ -45,9 +45,7 @@ impl<M: Mesh> Mesh for Mirrored<M> {
     }
 
     fn twin(&self, h: HalfEdgeId) -> Option<HalfEdgeId> {
-        match self.below.twin(h.mirrored_side()) {
-            Some(d) => Some(d.mirrored_side()),
-            None => None,
-        }
+        let d = self.below.twin(h.mirrored_side())?;
+        Some(d.mirrored_side())
     }
 }

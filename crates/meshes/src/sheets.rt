@@ -1,14 +1,15 @@
 // A sheet of square cells with square holes, by formula: nothing is stored but the numbers of columns and rows of holes and the pitch.
-ghost use Rattle.std.specs.Prelude.{◌≡◌, ◌+◌, ◌*◌, ◌<◌, ◌≤◌, pos, IfOk, if◌then◌else◌, Some, None};
-ghost use Rattle.base.specs.Ids.{half_edge};
+ghost use Rattle.std.specs.Prelude.{◌≡◌, ◌+◌, ◌-◌, ◌*◌, ◌<◌, ◌≤◌, pos, IfOk, cond, Some, None};
+ghost use Rattle.std.specs.Option.{option_map};
 ghost use Rattle.base.specs.Refusals.{refusal};
-ghost use Rattle.surfaces.specs.Sheet.{cell, kept, cell_number, numbered, cells, grid_vertex, sheet, sheet_refusal};
+ghost use Rattle.surfaces.specs.Sheet.{cell, kept, numbered, cells, edge, code, opposite, beyond, grid_vertex, sheet, sheet_refusal, bottom, left};
 ghost use Rattle.surfaces.proofs.SheetLawful.{sheet_lawful};
 
 use crate::Mesh;
 use base::ids::{HalfEdgeId, TriangleId, VertexId};
 use base::refusals::{Refusal, SheetParameter};
 use geometry::IntegerPoint;
+use geometry::kinds::PointKind;
 
 // The largest number of columns, and of rows.
 const HOLES: u16 = 25;
@@ -18,19 +19,49 @@ const NARROW: u16 = 3;
 const WIDE: u16 = 100;
 
 // The half-edges of a cell: three of its lower triangle, then three of its upper one. Down and up are the two halves of the diagonal.
-const BOTTOM: u16 = 0;
+#[derive(Clone, Copy, PartialEq, Eq, Debug)]
+enum Edge {
+    Bottom,
+    Right,
+    Down,
+    Up,
+    Top,
+    Left,
+}
 
-const RIGHT: u16 = 1;
+impl Edge {
+    ghost use Rattle.meshes.specs.Cells.{edge_of};
 
-const DOWN: u16 = 2;
+    // The half-edge with this number in its cell.
+    fn of(n: u16) -> Edge
+        ensures { edge_of result ≡ edge n }
+    {
+        match n {
+            0 => Edge::Bottom,
+            1 => Edge::Right,
+            2 => Edge::Down,
+            3 => Edge::Up,
+            4 => Edge::Top,
+            _ => Edge::Left,
+        }
+    }
 
-const UP: u16 = 3;
+    // The one that runs the other way on the same side of the square.
+    fn opposite(self) -> Edge
+        ensures { edge_of result ≡ opposite (edge_of self) }
+    {
+        match self {
+            Edge::Bottom => Edge::Top,
+            Edge::Right => Edge::Left,
+            Edge::Down => Edge::Up,
+            Edge::Up => Edge::Down,
+            Edge::Top => Edge::Bottom,
+            Edge::Left => Edge::Right,
+        }
+    }
+}
 
-const TOP: u16 = 4;
-
-const LEFT: u16 = 5;
-
-#[derive(Clone, Copy)]
+#[derive(Clone, Copy, PartialEq, Eq, Debug)]
 pub struct PerforatedSheet {
     columns: u16,
     rows: u16,
@@ -41,14 +72,82 @@ pub struct PerforatedSheet {
     ghost not_wide: { pitch ≤ 100 },
 }
 
-// A square of the grid.
-#[derive(Clone, Copy)]
+// A square of the grid, or the vertex at its lower left corner.
+#[derive(Clone, Copy, PartialEq, Eq, Debug)]
 struct Square {
     column: u16,
     row: u16,
+    ghost column_within: { column ≤ 51 },
+    ghost row_within: { row ≤ 51 },
+}
+
+// A square of the sheet has one on its right and one above it in the grid; each step there asks for that, since the grid ends behind them.
+impl Square {
+    ghost use Rattle.meshes.specs.Cells.{edge_of, cell_of};
+
+    // The square on its right.
+    fn right(self) -> Square
+        requires { self.column ≤ 50 }
+        ensures column { result.column ≡ self.column + 1 }
+        ensures row { result.row ≡ self.row }
+    {
+        Square {
+            column: self.column + 1,
+            row: self.row,
+        }
+    }
+
+    // The square above it.
+    fn above(self) -> Square
+        requires { self.row ≤ 50 }
+        ensures column { result.column ≡ self.column }
+        ensures row { result.row ≡ self.row + 1 }
+    {
+        Square {
+            column: self.column,
+            row: self.row + 1,
+        }
+    }
+
+    // The square on its left, if the grid has one there.
+    fn left(self) -> Option<Square>
+        ensures { option_map cell_of result ≡ beyond (cell_of self) left }
+    {
+        Some(Square {
+            column: self.column.checked_sub(1)?,
+            row: self.row,
+        })
+    }
+
+    // The square below it, if the grid has one there.
+    fn below(self) -> Option<Square>
+        ensures { option_map cell_of result ≡ beyond (cell_of self) bottom }
+    {
+        Some(Square {
+            column: self.column,
+            row: self.row.checked_sub(1)?,
+        })
+    }
+
+    // The square across a half-edge, if the grid has one there.
+    fn beyond(self, edge: Edge) -> Option<Square>
+        requires column { self.column ≤ 50 }
+        requires row { self.row ≤ 50 }
+        ensures { option_map cell_of result ≡ beyond (cell_of self) (edge_of edge) }
+    {
+        match edge {
+            Edge::Bottom => self.below(),
+            Edge::Right => Some(self.right()),
+            Edge::Down | Edge::Up => Some(self),
+            Edge::Top => Some(self.above()),
+            Edge::Left => self.left(),
+        }
+    }
 }
 
 impl PerforatedSheet {
+    ghost use Rattle.meshes.specs.Cells.{edge_of, cell_of};
+
     pub fn new(columns: u16, rows: u16, pitch: u16) -> Result<PerforatedSheet, Refusal>
         ensures verdict { refusal result ≡ sheet_refusal columns rows pitch }
         ensures parts { IfOk result (λ s. (s.columns ≡ columns) × (s.rows ≡ rows) × (s.pitch ≡ pitch)) }
@@ -63,7 +162,7 @@ impl PerforatedSheet {
                 parameter: SheetParameter::Rows,
             });
         }
-        if pitch < NARROW || pitch > WIDE {
+        if !(NARROW..=WIDE).contains(&pitch) {
             return Err(Refusal::SheetRange {
                 parameter: SheetParameter::Pitch,
             });
@@ -83,10 +182,10 @@ impl PerforatedSheet {
         self.rows * (3 * self.columns + 2) + (2 * self.columns + 1)
     }
 
-    // The kept cell with this number.
-    fn cell(&self, number: u16) -> Square
+    // The square of the kept cell with this number.
+    fn square(&self, number: u16) -> Square
         requires { number < cells self.now.columns self.now.rows }
-        ensures is { cell result.column result.row ≡ numbered self.now.columns number }
+        ensures is { cell_of result ≡ numbered self.now.columns number }
         ensures column { result.column ≤ 50 }
         ensures row { result.row ≤ 50 }
     {
@@ -106,13 +205,11 @@ impl PerforatedSheet {
         }
     }
 
-    // A half-edge of a cell, if the cell is kept.
-    fn half_edge(&self, column: u16, row: u16, edge: u16) -> Option<HalfEdgeId>
-        requires column { column ≤ 51 }
-        requires row { row ≤ 51 }
-        requires edge { edge < 6 }
-        ensures { result ≡ (if kept self.now.columns self.now.rows (cell column row) then Some (half_edge (6 * cell_number self.now.columns (cell column row) + edge)) else None) }
+    // A half-edge of a square, if the sheet keeps that square.
+    fn half_edge(&self, square: Square, edge: Edge) -> Option<HalfEdgeId>
+        ensures { result ≡ cond (kept self.now.columns self.now.rows (cell_of square)) (Some (code self.now.columns (cell_of square) (edge_of edge))) None }
     {
+        let Square { column, row } = square;
         if column > 2 * self.columns || row > 2 * self.rows || column % 2 == 1 && row % 2 == 1 {
             return None;
         }
@@ -122,16 +219,14 @@ impl PerforatedSheet {
             column
         };
         let number = row / 2 * (3 * self.columns + 2) + place;
-        Some(HalfEdgeId(6 * number + edge))
+        Some(HalfEdgeId(6 * number + edge as u16))
     }
 
-    // The vertex of a column and a row.
-    fn vertex(&self, column: u16, row: u16) -> VertexId
-        requires column { column ≤ 51 }
-        requires row { row ≤ 51 }
-        ensures { result ≡ grid_vertex self.now.columns column row }
+    // The vertex at the lower left corner of a square.
+    fn vertex(&self, square: Square) -> VertexId
+        ensures { result ≡ grid_vertex self.now.columns square.column square.row }
     {
-        VertexId(row * (2 * self.columns + 2) + column)
+        VertexId(square.row * (2 * self.columns + 2) + square.column)
     }
 
     // How far along or up a column or a row is.
@@ -163,25 +258,24 @@ impl Mesh for PerforatedSheet {
         if t.0 / 2 >= self.cells() {
             return [VertexId(0); 3];
         }
-        let Square { column, row } = self.cell(t.0 / 2);
-        let lower_left = self.vertex(column, row);
-        let upper_right = self.vertex(column + 1, row + 1);
+        let square = self.square(t.0 / 2);
+        let lower_left = self.vertex(square);
+        let upper_right = self.vertex(square.right().above());
         if t.0 % 2 == 0 {
-            [lower_left, self.vertex(column + 1, row), upper_right]
+            [lower_left, self.vertex(square.right()), upper_right]
         } else {
-            [lower_left, upper_right, self.vertex(column, row + 1)]
+            [lower_left, upper_right, self.vertex(square.above())]
         }
     }
 
     fn point(&self, v: VertexId) -> IntegerPoint {
+        if v.0 >= self.vertices() {
+            return IntegerPoint::origin();
+        }
         let width = 2 * self.columns + 2;
-        if v.0 < width * (2 * self.rows + 2) {
-            IntegerPoint {
-                x: self.distance(v.0 % width),
-                y: self.distance(v.0 / width),
-            }
-        } else {
-            IntegerPoint { x: 0, y: 0 }
+        IntegerPoint {
+            x: self.distance(v.0 % width),
+            y: self.distance(v.0 / width),
         }
     }
 
@@ -189,16 +283,8 @@ impl Mesh for PerforatedSheet {
         if h.0 / 6 >= self.cells() {
             return None;
         }
-        let Square { column, row } = self.cell(h.0 / 6);
-        match h.0 % 6 {
-            BOTTOM if row == 0 => None,
-            BOTTOM => self.half_edge(column, row - 1, TOP),
-            RIGHT => self.half_edge(column + 1, row, LEFT),
-            DOWN => Some(HalfEdgeId(h.0 + 1)),
-            UP => Some(HalfEdgeId(h.0 - 1)),
-            TOP => self.half_edge(column, row + 1, BOTTOM),
-            _ if column == 0 => None,
-            _ => self.half_edge(column - 1, row, RIGHT),
-        }
+        let edge = Edge::of(h.0 % 6);
+        let square = self.square(h.0 / 6).beyond(edge)?;
+        self.half_edge(square, edge.opposite())
     }
 }

@@ -1,12 +1,8 @@
--- Lists of bars: one more, and one that is found. A barred portal is boundary from both sides, every other twin stays, and one bar more is a layer more.
-use Rattle.std.proofs.Common.{◌≡◌, ℕ, zero, suc, ◌+◌, ◌<◌, ◌≤◌, Bool, true, false, cond, ◌||◌, eqb, leb, List, [], ◌∷◌, ◌++◌, length, get_or, take, Some, None, Option, sym, refl, ap, ◌∙◌, ap₂, arith}
+-- A barred portal is boundary from both sides, every other twin stays, and one bar more is a layer more.
+use Rattle.std.proofs.Common.{◌≡◌, Bool, true, false, cond, ◌||◌, eqb, List, [], ◌∷◌, ◌++◌, Some, None, Option, sym, refl, ap, ◌∙◌, ap₂}
 use mathlib.Core.Bool.{or-true}
-use Rattle.std.proofs.lemmas.List.{take_more}
-use Rattle.std.proofs.lemmas.Bool.{or_left, or_right}
-use Rattle.std.proofs.lemmas.Bool.Decides.{nat_tests}
 use Rattle.base.specs.declared.ids.HalfEdgeId.{HalfEdgeId}
-use Rattle.base.specs.declared.refusals.Refusal.TheVariants.{BarsFull}
-use Rattle.surfaces.specs.Layers.{among, unless_barred, barred, portal_refusal}
+use Rattle.surfaces.specs.Layers.{among, unless_barred, barred}
 use Rattle.surfaces.specs.Laws.{BarsBothSides, BarredAgain}
 use Rattle.surfaces.proofs.LayerTwins.{twin_twins}
 
@@ -21,23 +17,6 @@ among_append (x ∷ xs) ys h = ap (λ t. eqb x.0 h.0 || t) (among_append xs ys h
 or_nothing : (a : Bool) → (a || false) ≡ a
 or_nothing true = refl
 or_nothing false = refl
-
-pub among_more : (xs : List HalfEdgeId) (i : ℕ) (h d : HalfEdgeId) → i < length xs → among (take (i + 1) xs) h ≡ (among (take i xs) h || eqb (get_or xs i d).0 h.0)
-among_more xs i h d l =
-    ap (λ ys. among ys h) (take_more xs i d l)
-    ∙ among_append (take i xs) (get_or xs i d ∷ []) h
-    ∙ ap (λ t. among (take i xs) h || t) (or_nothing (eqb (get_or xs i d).0 h.0))
-
-pub among_found : (xs : List HalfEdgeId) (i n : ℕ) (h d : HalfEdgeId) → i < n → n ≤ length xs → eqb (get_or xs i d).0 h.0 ≡ true → among (take n xs) h ≡ true
-among_found [] i n h d l k e = absurd (omega arith)
-among_found (x ∷ xs) i zero h d l k e = absurd (omega arith)
-among_found (x ∷ xs) zero (suc n) h d l k e = or_left (eqb x.0 h.0) (among (take n xs) h) e
-among_found (x ∷ xs) (suc i) (suc n) h d l k e = or_right (eqb x.0 h.0) (among (take n xs) h) (among_found xs i n h d (omega arith) (omega arith) e)
-
-pub bar_allowed : (o : Option HalfEdgeId) (d side : HalfEdgeId) (n : ℕ) → o ≡ Some d → n < 64 → None ≡ portal_refusal o side n
-bar_allowed o d side n e l =
-    let t : leb 64 n ≡ false = grind (arith, nat_tests) in
-    sym (ap (λ o. portal_refusal o side n) e ∙ ap (λ t. cond t (Some BarsFull) None) t)
 
 -- ---- what a bar does
 pub bars_both_sides : BarsBothSides

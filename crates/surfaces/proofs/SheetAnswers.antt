@@ -1,14 +1,13 @@
 -- What the definitions of the sheet come to at a number that is given, and how large the numbers grow.
-use Rattle.std.proofs.Common.{◌≡◌, ℕ, zero, suc, ◌+◌, ◌-◌, ◌*◌, ◌/◌, ◌%◌, ◌<◌, ◌≤◌, false, cond, eqb, [], ◌∷◌, Some, None, sym, refl, ap, ◌∙◌, subst, ap₂, mul_comm, div-lt_iff_lt-mul, mul-le-mul, arith}
-use Rattle.std.proofs.lemmas.Bool.Decides.{nat_tests}
+use Rattle.std.proofs.Common.{◌≡◌, ℕ, ◌+◌, ◌-◌, ◌*◌, ◌/◌, ◌%◌, ◌<◌, ◌≤◌, cond, [], ◌∷◌, None, Option, sym, refl, ap, ◌∙◌, subst, ap₂, mul_comm, div-lt_iff_lt-mul, mul-le-mul, arith}
 use Rattle.base.specs.declared.ids.TriangleId.{TriangleId}
 use Rattle.base.specs.declared.ids.VertexId.{VertexId}
 use Rattle.base.specs.declared.ids.HalfEdgeId.{HalfEdgeId}
-use Rattle.base.specs.Ids.{vertex, half_edge, side}
+use Rattle.base.specs.Ids.{vertex, side}
 use Rattle.mesh.specs.Surface.{Surface}
 use Rattle.surfaces.specs.Lawful.{CornersOf}
-use Rattle.surfaces.specs.Sheet.{Cell, cell, kept, pair, cell_number, numbered, cells, Edge, bottom, right, down, up, top, left, edge, crossing, width, sheet_corner, sheet_twin, sheet}
-use Rattle.surfaces.proofs.SheetCells.{of_kept, numbered_kept, number_numbered, below_test, cell_low, cell_high}
+use Rattle.surfaces.specs.Sheet.{Cell, cell, pair, numbered, cells, Edge, bottom, right, down, up, top, left, edge, beyond, crossing, width, sheet_corner, sheet_twin, sheet}
+use Rattle.surfaces.proofs.SheetCells.{below_test, cell_low, cell_high}
 
 pub pairs_fit : (a m : ℕ) → a ≤ 25 → m ≤ 25 → m * pair a ≤ 1925
 pairs_fit a m h k = let p : pair a ≤ 77 = omega arith in mul-le-mul k p
@@ -32,14 +31,6 @@ low_cell a n h = sym (cell_low a (n / pair a) (n % pair a) h)
 pub high_cell : (a n : ℕ) → 2 * a + 1 ≤ n % pair a → cell (2 * (n % pair a - (2 * a + 1))) (2 * (n / pair a) + 1) ≡ numbered a n
 high_cell a n h = sym (cell_high a (n / pair a) (n % pair a) h)
 
-last_edge : (k : ℕ) → 5 ≤ k → edge k ≡ left
-last_edge zero h = absurd (omega arith)
-last_edge (suc zero) h = absurd (omega arith)
-last_edge (suc (suc zero)) h = absurd (omega arith)
-last_edge (suc (suc (suc zero))) h = absurd (omega arith)
-last_edge (suc (suc (suc (suc zero)))) h = absurd (omega arith)
-last_edge (suc (suc (suc (suc (suc n))))) h = refl
-
 sixth : (n m : ℕ) → n / 6 < m → n < 6 * m
 sixth n m h = omega arith
 
@@ -47,38 +38,12 @@ module _ (a b g : ℕ) where
   abbrev f : Surface
   f = sheet a b g
 
-  pub twin_is : (h : HalfEdgeId) → h.0 / 6 < cells a b → f.twin h ≡ sheet_twin a b (numbered a (h.0 / 6)) (edge (h.0 % 6))
+  twin_is : (h : HalfEdgeId) → h.0 / 6 < cells a b → f.twin h ≡ sheet_twin a b (numbered a (h.0 / 6)) (edge (h.0 % 6))
   twin_is h l = ap (λ t. cond t (sheet_twin a b (numbered a (h.0 / 6)) (edge (h.0 % 6))) None) (below_test h.0 (6 * cells a b) (sixth h.0 (cells a b) l))
 
-  pub twin_left : (h : HalfEdgeId) → h.0 / 6 < cells a b → 5 ≤ h.0 % 6 → f.twin h ≡ sheet_twin a b (numbered a (h.0 / 6)) left
-  twin_left h l k = twin_is h l ∙ ap (sheet_twin a b (numbered a (h.0 / 6))) (last_edge (h.0 % 6) k)
-
-  pub twin_leftward : (h : HalfEdgeId) (q : Cell) → h.0 / 6 < cells a b → 5 ≤ h.0 % 6 → q ≡ numbered a (h.0 / 6) → (q.column ≡ 0 → ⊥) → f.twin h ≡ cond (kept a b (cell (q.column - 1) q.row)) (Some (half_edge (6 * cell_number a (cell (q.column - 1) q.row) + 1))) None
-  twin_leftward h q l k e some =
-      twin_left h l k
-      ∙ ap (λ q. sheet_twin a b q left) (sym e)
-      ∙ ap (λ t. crossing a b left (cond t None (Some (cell (q.column - 1) q.row)))) (not_zero q.column some)
-    where
-      not_zero : (n : ℕ) → (n ≡ 0 → ⊥) → eqb n 0 ≡ false
-      not_zero n h = grind (arith, nat_tests)
-
-  -- the two halves of a diagonal follow each other
-  diagonal : (n : ℕ) (e : ℕ) → n < cells a b → cond (kept a b (numbered a n)) (Some (half_edge (6 * cell_number a (numbered a n) + e))) None ≡ Some (half_edge (6 * n + e))
-  diagonal n e l =
-      ap (λ t. cond t (Some (half_edge (6 * cell_number a (numbered a n) + e))) None) (of_kept a b (numbered a n) (numbered_kept a b n l))
-      ∙ ap (λ m. Some (half_edge (6 * m + e))) (number_numbered a n)
-
-  pub twin_down : (h : HalfEdgeId) → h.0 / 6 < cells a b → h.0 % 6 ≡ 2 → f.twin h ≡ Some (half_edge (h.0 + 1))
-  twin_down h l k = twin_is h l ∙ ap (λ k. sheet_twin a b (numbered a (h.0 / 6)) (edge k)) k ∙ diagonal (h.0 / 6) 3 l ∙ ap (λ n. Some (half_edge n)) (after h.0 k)
-    where
-      after : (n : ℕ) → n % 6 ≡ 2 → 6 * (n / 6) + 3 ≡ n + 1
-      after n k = omega arith
-
-  pub twin_up : (h : HalfEdgeId) → h.0 / 6 < cells a b → h.0 % 6 ≡ 3 → f.twin h ≡ Some (half_edge (h.0 - 1))
-  twin_up h l k = twin_is h l ∙ ap (λ k. sheet_twin a b (numbered a (h.0 / 6)) (edge k)) k ∙ diagonal (h.0 / 6) 2 l ∙ ap (λ n. Some (half_edge n)) (before h.0 k)
-    where
-      before : (n : ℕ) → n % 6 ≡ 3 → 6 * (n / 6) + 2 ≡ n - 1
-      before n k = omega arith
+  -- the twin of a half-edge, from the cell beyond it
+  pub twin_beyond : (h : HalfEdgeId) (q : Cell) (e : Edge) (o : Option Cell) → h.0 / 6 < cells a b → q ≡ numbered a (h.0 / 6) → e ≡ edge (h.0 % 6) → o ≡ beyond q e → crossing a b e o ≡ f.twin h
+  twin_beyond h q e o l at by across = ap (crossing a b e) across ∙ ap₂ (sheet_twin a b) at by ∙ sym (twin_is h l)
 
   corner_is : (t : TriangleId) (k : ℕ) → k < 3 → t.0 / 2 < cells a b → f.corner (side t k) ≡ sheet_corner a (numbered a (t.0 / 2)) (edge (3 * (t.0 % 2) + k))
   corner_is t k s l =

@@ -5,7 +5,8 @@
 -- barred          the surface whose barred portals are boundary from both sides
 -- portal_refusal  why a side with this half-edge across it cannot be barred
 -- bar_refusal     why a side cannot be barred: it is no portal as the surface shows it, or else 64 bars stand already
-use Rattle.std.specs.Prelude.{ℕ, Bool, false, cond, ◌||◌, List, [], ◌∷◌, Some, None, Option, ◌==◌, nat_le}
+use Rattle.std.specs.Prelude.{ℕ, Bool, cond, ◌||◌, List, Some, None, Option, ◌==◌, nat_le}
+use Rattle.std.specs.List.{list_any}
 use Rattle.base.specs.declared.ids.HalfEdgeId.{HalfEdgeId}
 use Rattle.base.specs.declared.refusals.Refusal.{Refusal}
 use Rattle.base.specs.declared.refusals.Refusal.TheVariants.{NoPortal, BarsFull}
@@ -27,8 +28,7 @@ mirrored f = record {
 }
 
 abbrev pub among : List HalfEdgeId → HalfEdgeId → Bool
-among [] h = false
-among (b ∷ bars) h = b.0 == h.0 || among bars h
+among bars h = list_any (λ b. b.0 == h.0) bars
 
 abbrev pub unless_barred : List HalfEdgeId → HalfEdgeId → Option HalfEdgeId → Option HalfEdgeId
 unless_barred bars h None = None

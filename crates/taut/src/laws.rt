@@ -5,71 +5,51 @@ ghost use Rattle.taut.specs.EqualBends.{EqualBends};
 ghost use Rattle.taut.specs.SheetStrings.{SheetStrings};
 
 // No path through the portals is shorter than the taut string, under any gauge.
-pub fn shortness_stands() -> u8
+pub fn shortness_stands()
     ensures { Shortness }
-{
-    0
-}
+{}
 
 // A path that leaves out a place measures no more.
-pub fn shortcut_stands() -> u8
+pub fn shortcut_stands()
     ensures { Shortcut }
-{
-    0
-}
+{}
 
 // The funnel's bends are a taut string.
-pub fn existence_stands() -> u8
+pub fn existence_stands()
     ensures { Existence }
-{
-    0
-}
+{}
 
 // There is no other.
-pub fn uniqueness_stands() -> u8
+pub fn uniqueness_stands()
     ensures { Uniqueness }
-{
-    0
-}
+{}
 
 // In a fan a direction, its opposite and the direction again are not met in order.
-pub fn fan_order_stands() -> u8
+pub fn fan_order_stands()
     ensures { FanOrder }
-{
-    0
-}
+{}
 
 // Parts of a fan are fans, and so is a fan read from its other end.
-pub fn fan_parts_stand() -> u8
+pub fn fan_parts_stand()
     ensures { FanParts }
-{
-    0
-}
+{}
 
 // What crosses portals meets them in their order.
-pub fn portal_order_stands() -> u8
+pub fn portal_order_stands()
     ensures { PortalOrder }
-{
-    0
-}
+{}
 
 // A sleeve read backwards, and its string.
-pub fn backwards_stand() -> u8
+pub fn backwards_stand()
     ensures { Backwards }
-{
-    0
-}
+{}
 
 // Walks that part in a triangle do not have the same bends and the same end.
-pub fn equal_bends_stand() -> u8
+pub fn equal_bends_stand()
     ensures { EqualBends }
-{
-    0
-}
+{}
 
 // The funnel on a sheet with one hole.
-pub fn sheet_strings_stand() -> u8
+pub fn sheet_strings_stand()
     ensures { SheetStrings }
-{
-    0
-}
+{}

@@ -1,5 +1,4 @@
 pub mod Tallies
 pub mod Kinds
-pub mod Rows
+pub mod Judged
 pub mod Lines
-pub mod Bars

@@ -42,7 +42,7 @@ impl Tally {
     }
 
     // A sort that the file does not have is left out.
-    fn print(&self, rt: &HostRuntime, sort: &str) -> io::Result<()> {
+    fn print(&self, rt: &HostRuntime, sort: Sort) -> io::Result<()> {
         let agree = self.agree;
         let ran = self.agree.saturating_add(self.differ);
         let skipped = self.skipped;
@@ -91,10 +91,10 @@ impl Tallies {
     }
 
     pub fn print(&self, rt: &HostRuntime) -> io::Result<()> {
-        self.small.print(rt, "small")?;
-        self.vet.print(rt, "vet")?;
-        self.walks.print(rt, "walks")?;
-        self.calls.print(rt, "calls")?;
-        self.generated.print(rt, "gen")
+        self.small.print(rt, Sort::Small)?;
+        self.vet.print(rt, Sort::Vet)?;
+        self.walks.print(rt, Sort::Walks)?;
+        self.calls.print(rt, Sort::Calls)?;
+        self.generated.print(rt, Sort::Gen)
     }
 }

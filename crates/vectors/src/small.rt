@@ -1,30 +1,34 @@
 // The small cases: words of signed generators and of crossings to reduce, calls on a double-ended list, signs of numbers.
-use crate::reader::{Case, first_word};
+use crate::reader::{Case, Line, Lines, first_word};
 use crate::report::Outcome;
 use algebra::Sign;
 use algebra::signs::sign_of;
 use base::ids::HalfEdgeId;
 use base::refusals::Refusal;
 use deque::Deque;
+use described::rows::short;
 use std::alloc::{AllocError, Global};
+use words::letters::Letter;
 use words::reducing::reduce;
 use words::sorts::{Crossing, Generator};
 
 pub fn run(heap: Global, case: &Case) -> anyhow::Result<Outcome> {
-    let (kind, rest) = first_word(case.line(0, "letters, doors, deque or sign")?);
+    let mut lines = case.lines();
+    let line = lines.next_line("letters, doors, deque or sign")?;
+    let (kind, rest) = line.first_word();
     match kind {
-        "letters" => letters(heap, case, rest),
-        "doors" => doors(heap, case, rest),
-        "deque" => deque_calls(heap, case, rest),
-        "sign" => sign(heap, case, rest),
-        _ => Err(case.malformed(0, "letters, doors, deque or sign").into()),
+        "letters" => reduced::<Generator>(heap, rest, &mut lines),
+        "doors" => reduced::<Crossing>(heap, rest, &mut lines),
+        "deque" => deque_calls(heap, rest, &mut lines),
+        "sign" => sign(heap, rest, &mut lines),
+        _ => Err(line.malformed("letters, doors, deque or sign").into()),
     }
 }
 
-// Whether the second line answers `got`.
-fn compared(heap: Global, case: &Case, got: String) -> anyhow::Result<Outcome> {
-    let expected = case.after(1, "answer")?;
-    case.ends_after(1)?;
+// Whether the next line, the last, answers `got`.
+fn compared(heap: Global, lines: &mut Lines, got: String) -> anyhow::Result<Outcome> {
+    let expected = lines.next_after("answer")?.text;
+    lines.ends()?;
     if expected == got.as_str() {
         return Ok(Outcome::Agrees);
     }
@@ -40,51 +44,58 @@ fn append(line: &mut String, word: &str) -> Result<(), AllocError> {
     line.push_str(word)
 }
 
-fn letters(heap: Global, case: &Case, text: &str) -> anyhow::Result<Outcome> {
+// A letter as a case writes it.
+trait Written: Letter + Copy {
+    const FORM: &'static str;
+
+    fn read(word: &str) -> Option<Self>;
+
+    fn write(self, heap: Global) -> Result<String, AllocError>;
+}
+
+impl Written for Generator {
+    const FORM: &'static str = "whole numbers of 16 bits";
+
+    fn read(word: &str) -> Option<Generator> {
+        word.parse::<i16>().ok().map(Generator)
+    }
+
+    fn write(self, heap: Global) -> Result<String, AllocError> {
+        let number = self.0;
+        format!(in heap; "{number}")
+    }
+}
+
+// `left>entered`.
+impl Written for Crossing {
+    const FORM: &'static str = "crossings such as 2>3";
+
+    fn read(word: &str) -> Option<Crossing> {
+        let (left, entered) = word.split_once('>')?;
+        Some(Crossing {
+            left: HalfEdgeId(short(left)?),
+            entered: HalfEdgeId(short(entered)?),
+        })
+    }
+
+    fn write(self, heap: Global) -> Result<String, AllocError> {
+        let left = self.left.0;
+        let entered = self.entered.0;
+        format!(in heap; "{left}>{entered}")
+    }
+}
+
+fn reduced<L: Written>(heap: Global, letters: Line, lines: &mut Lines) -> anyhow::Result<Outcome> {
     let mut word = Vec::new(heap);
-    for letter in text.split_whitespace() {
-        let Ok(number) = letter.parse::<i16>() else {
-            return Err(case.malformed(0, "whole numbers of 16 bits").into());
-        };
-        word.push(Generator(number))?;
+    for letter in letters.text.split_whitespace() {
+        word.push(L::read(letter).ok_or(letters.malformed(L::FORM))?)?;
     }
     let n = reduce(word.as_mut_slice());
     let mut got = String::new(heap);
     for letter in word.iter().take(n) {
-        let number = letter.0;
-        append(&mut got, format!(in heap; "{number}")?.as_str())?;
+        append(&mut got, letter.write(heap)?.as_str())?;
     }
-    compared(heap, case, got)
-}
-
-// `left>entered`.
-fn crossing(text: &str) -> Option<Crossing> {
-    let (left, entered) = text.split_once('>')?;
-    match (left.parse::<u16>(), entered.parse::<u16>()) {
-        (Ok(left), Ok(entered)) => Some(Crossing {
-            left: HalfEdgeId(left),
-            entered: HalfEdgeId(entered),
-        }),
-        _ => None,
-    }
-}
-
-fn doors(heap: Global, case: &Case, text: &str) -> anyhow::Result<Outcome> {
-    let mut walk = Vec::new(heap);
-    for door in text.split_whitespace() {
-        let Some(crossing) = crossing(door) else {
-            return Err(case.malformed(0, "crossings such as 2>3").into());
-        };
-        walk.push(crossing)?;
-    }
-    let n = reduce(walk.as_mut_slice());
-    let mut got = String::new(heap);
-    for crossing in walk.iter().take(n) {
-        let left = crossing.left.0;
-        let entered = crossing.entered.0;
-        append(&mut got, format!(in heap; "{left}>{entered}")?.as_str())?;
-    }
-    compared(heap, case, got)
+    compared(heap, lines, got)
 }
 
 fn pushed(heap: Global, answer: Result<(), Refusal>) -> Result<String, AllocError> {
@@ -123,18 +134,19 @@ fn answered(
     Ok(Some(answer))
 }
 
-fn deque_calls(heap: Global, case: &Case, text: &str) -> anyhow::Result<Outcome> {
-    let Ok(size) = text.parse::<usize>() else {
-        return Err(case.malformed(0, "the size of the list").into());
-    };
+fn deque_calls(heap: Global, head: Line, lines: &mut Lines) -> anyhow::Result<Outcome> {
+    let size = head
+        .text
+        .parse::<usize>()
+        .map_err(|_| head.malformed("the size of the list"))?;
     let mut slots = vec![in heap; 0u32; size]?;
     let mut list = Deque::new();
-    for i in 0..case.lines.len() / 2 {
-        let call = case.after(2 * i + 1, ">")?;
-        let expected = case.after(2 * i + 2, "<")?;
-        let Some(got) = answered(heap, &mut list, slots.as_mut_slice(), call)? else {
-            return Err(case.malformed(2 * i + 1, "a call of the list").into());
-        };
+    for _ in 0..lines.count().div_ceil(2) {
+        let call = lines.next_after(">")?;
+        let expected = lines.next_after("<")?.text;
+        let got = answered(heap, &mut list, slots.as_mut_slice(), call.text)?.ok_or(call.malformed(
+            "a call of the list",
+        ))?;
         if expected != got.as_str() {
             let expected = String::from_str(heap, expected)?;
             return Ok(Outcome::Differs { expected, got });
@@ -143,15 +155,15 @@ fn deque_calls(heap: Global, case: &Case, text: &str) -> anyhow::Result<Outcome>
     Ok(Outcome::Agrees)
 }
 
-fn sign(heap: Global, case: &Case, text: &str) -> anyhow::Result<Outcome> {
-    let (p, q) = first_word(text);
+fn sign(heap: Global, numbers: Line, lines: &mut Lines) -> anyhow::Result<Outcome> {
+    let (p, q) = first_word(numbers.text);
     let (Ok(p), Ok(q)) = (p.parse::<i64>(), q.parse::<i64>()) else {
-        return Err(case.malformed(0, "the two parts of a number").into());
+        return Err(numbers.malformed("the two parts of a number").into());
     };
     let got = match sign_of(p, q) {
         Sign::Minus => "-1",
         Sign::Zero => "0",
         Sign::Plus => "1",
     };
-    compared(heap, case, String::from_str(heap, got)?)
+    compared(heap, lines, String::from_str(heap, got)?)
 }

@@ -1,106 +1,87 @@
 // The vetting cases: lists that may be a mesh, points that may be out of range, sheets.
-use crate::answer::Answer;
-use crate::lists::{Kind, Lists, quadratic_row, read_vertices, sheet_of};
-use crate::reader::{Case, first_word, words};
+use crate::answer::{Accepted, Answer, Refused, compare, verdict};
+use crate::lists::{Size, count, kind_of, read_vertices};
+use crate::reader::{Case, Line, Lines};
 use crate::report::Outcome;
 use base::ids::{HalfEdgeId, VertexId};
-use base::refusals::Refusal;
+use described::lists::Described;
+use described::rows::{Kind, quadratic_row, sheet_of, short};
 use geometry::kinds::PointKind;
-use geometry::{IntegerPoint, IntegerRow, QuadraticPoint, QuadraticRow};
+use geometry::{IntegerPoint, IntegerRow, QuadraticPoint};
 use std::alloc::Global;
 
 pub fn run(heap: Global, case: &Case) -> anyhow::Result<Outcome> {
-    let (name, rest) = first_word(case.line(0, "table, makepoint, sheet or packed")?);
+    let mut lines = case.lines();
+    let line = lines.next_line("table, makepoint, sheet or packed")?;
+    let (name, rest) = line.first_word();
     match name {
-        "table" => table(heap, case, rest),
-        "makepoint" => make_point(heap, case, rest),
-        "sheet" => sheet(heap, case, rest),
+        "table" => table(heap, rest, &mut lines),
+        "makepoint" => make_point(heap, rest, &mut lines),
+        "sheet" => sheet(heap, rest, &mut lines),
         "packed" => Ok(Outcome::Skipped),
-        _ => Err(
-            case.malformed(0, "table, makepoint, sheet or packed")
-                .into(),
-        ),
+        _ => Err(line.malformed("table, makepoint, sheet or packed").into()),
     }
 }
 
-// The kind of a table, the number of triangles that it claims, and the lengths of its lists.
+// The size of a table, and the lengths of its other lists.
 #[derive(Clone, Copy)]
 struct Shape {
-    kind: Kind,
-    triangles: usize,
-    rows: usize,
+    size: Size,
     corners: usize,
     across: usize,
 }
 
 impl Shape {
+    // `None` and no error: only the line knows its number.
     fn parse(words: &[&str]) -> Option<Shape> {
-        let [kind, triangles, rows, corners, across] = words else {
+        let [size @ .., corners, across] = words else {
             return None;
         };
         Some(Shape {
-            kind: Kind::parse(*kind)?,
-            triangles: size(*triangles)?,
-            rows: size(*rows)?,
-            corners: size(*corners)?,
-            across: size(*across)?,
+            size: Size::parse(size)?,
+            corners: count(*corners)?,
+            across: count(*across)?,
         })
     }
 }
 
-fn size(word: &str) -> Option<usize> {
-    word.parse::<usize>().ok()
-}
-
-fn table(heap: Global, case: &Case, text: &str) -> anyhow::Result<Outcome> {
-    let words = words(heap, text)?;
-    let Some(shape) = Shape::parse(words.as_slice()) else {
-        return Err(case.malformed(0, "a kind and four sizes").into());
-    };
-    let end = shape.rows.saturating_add(1);
-    let vertices = read_vertices(heap, case, 1, shape.rows, shape.kind)?;
-    let corners = corners(heap, case, end, shape.corners)?;
-    let end = end.saturating_add(1);
-    let across = across(heap, case, end, shape.across)?;
-    let lists = Lists {
-        vertices,
-        corners,
-        across,
-    };
-    lists
-        .verdict(shape.triangles)
-        .compare(heap, case, end.saturating_add(1))
-}
-
-fn corners(heap: Global, case: &Case, i: usize, count: usize) -> anyhow::Result<Vec<VertexId>> {
-    let mut corners = Vec::new(heap);
-    for word in case.after(i, "corners")?.split_whitespace() {
-        let Ok(number) = word.parse::<u16>() else {
-            return Err(case.malformed(i, "corners from 0 to 65535").into());
-        };
-        corners.push(VertexId(number))?;
+fn table(heap: Global, head: Line, lines: &mut Lines) -> anyhow::Result<Outcome> {
+    let shape = head.read(heap, Shape::parse, "a kind and four sizes")?;
+    let size = shape.size;
+    let mut table = Described::new(heap, size.kind);
+    table.triangles = size.triangles;
+    read_vertices(heap, lines, size.vertices, &mut table.vertices)?;
+    let line = lines.next_after("corners")?;
+    table.corners = list(heap, line, VertexId, "corners from 0 to 65535")?;
+    if table.corners.len() != shape.corners {
+        return Err(line.malformed("as many corners as the table has").into());
     }
-    if corners.len() != count {
-        return Err(case.malformed(i, "as many corners as the table has").into());
-    }
-    Ok(corners)
-}
-
-fn across(heap: Global, case: &Case, i: usize, count: usize) -> anyhow::Result<Vec<HalfEdgeId>> {
-    let mut across = Vec::new(heap);
-    for word in case.after(i, "across")?.split_whitespace() {
-        let Ok(code) = word.parse::<u16>() else {
-            return Err(case.malformed(i, "codes across from 0 to 65535").into());
-        };
-        across.push(HalfEdgeId(code))?;
-    }
-    if across.len() != count {
+    let line = lines.next_after("across")?;
+    table.across = list(heap, line, HalfEdgeId, "codes across from 0 to 65535")?;
+    if table.across.len() != shape.across {
         return Err(
-            case.malformed(i, "as many codes across as the table has")
+            line.malformed("as many codes across as the table has")
                 .into(),
         );
     }
-    Ok(across)
+    compare(heap, lines, verdict(&table))
+}
+
+// What the numbers of a line name.
+fn list<T: Drop, F: Fn(u16) -> T>(
+    heap: Global,
+    line: Line,
+    named: F,
+    expected: &'static str,
+) -> anyhow::Result<Vec<T>>
+    requires { F.IsAlwaysCallable named }
+{
+    let mut list = Vec::new(heap);
+    for word in line.text.split_whitespace() {
+        let number = short(word).ok_or(line.malformed(expected))?;
+        list.push(named(number))?;
+    }
+    Ok(list)
 }
 
 // All four numbers stand on the line for either kind; whole points have no second parts.
@@ -109,37 +90,27 @@ fn point_made(words: &[&str]) -> Option<Answer> {
         return None;
     };
     let row = quadratic_row(numbers)?;
-    match Kind::parse(*kind)? {
-        Kind::Integer => Some(made(IntegerPoint::make(IntegerRow {
+    match kind_of(*kind)? {
+        Kind::Integer => Some(made::<IntegerPoint>(IntegerRow {
             x: row.xp,
             y: row.yp,
-        }))),
-        Kind::Quadratic => Some(made(QuadraticPoint::make(row))),
+        })),
+        Kind::Quadratic => Some(made::<QuadraticPoint>(row)),
     }
 }
 
-fn made<P: PointKind>(point: Result<P, Refusal>) -> Answer {
-    match point {
-        Ok(_) => Answer::Accepted,
-        Err(refusal) => Answer::refused(refusal),
-    }
+fn made<P: PointKind>(row: P::Row) -> Answer {
+    P::make(row)?;
+    Ok(Accepted::Made)
 }
 
-fn make_point(heap: Global, case: &Case, text: &str) -> anyhow::Result<Outcome> {
-    let words = words(heap, text)?;
-    match point_made(words.as_slice()) {
-        Some(answer) => answer.compare(heap, case, 1),
-        None => Err(case.malformed(0, "a kind and four whole numbers").into()),
-    }
+fn make_point(heap: Global, head: Line, lines: &mut Lines) -> anyhow::Result<Outcome> {
+    let answer = head.read(heap, point_made, "a kind and four whole numbers")?;
+    compare(heap, lines, answer)
 }
 
-fn sheet(heap: Global, case: &Case, text: &str) -> anyhow::Result<Outcome> {
-    let words = words(heap, text)?;
-    let Some(made) = sheet_of(words.as_slice()) else {
-        return Err(case.malformed(0, "three sizes").into());
-    };
-    match made {
-        Ok(_) => Answer::Sound.compare(heap, case, 1),
-        Err(refusal) => Answer::refused(refusal).compare(heap, case, 1),
-    }
+fn sheet(heap: Global, head: Line, lines: &mut Lines) -> anyhow::Result<Outcome> {
+    let made = head.read(heap, sheet_of, "three sizes")?;
+    let answer = made.map(|_| Accepted::Sound).map_err(Refused::from);
+    compare(heap, lines, answer)
 }

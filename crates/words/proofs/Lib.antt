@@ -1,6 +1,6 @@
 pub mod LastLetters
 pub mod EqualReductions
-pub mod LettersInPlaces
+pub mod LastLetterTells
 pub mod ReducingInPlace
 pub mod LawfulSorts
 pub mod CarriedOver

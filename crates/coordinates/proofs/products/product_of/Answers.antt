@@ -1,15 +1,8 @@
-use Rattle.std.proofs.Common.{w32, SFits, rules}
-use Rattle.algebra.proofs.Magnitudes.{part_product, part_bound}
+use Rattle.coordinates.proofs.PartSizes.{product_fits, product_is, product_within}
 use Rattle.coordinates.proofs.products.product_of.Goals as goal
 
-pub invariant_of-result : goal.invariant_of-result
-invariant_of-result c =
-    let f : SFits w32 c.args.a.n = search rules in
-    let g : SFits w32 c.args.b.n = search rules in
-    record { within = part_bound _ _ _ c.args.a.within c.args.b.within (part_product _ _ f g c.args.a.within c.args.b.within) }
+pub overflow_mul-result : goal.overflow_mul-result
+overflow_mul-result c = product_fits _ _ c.requires.a_within c.requires.b_within
 
 pub returns : goal.returns
-returns c =
-    let f : SFits w32 c.args.a.n = search rules in
-    let g : SFits w32 c.args.b.n = search rules in
-    part_product _ _ f g c.args.a.within c.args.b.within
+returns c = record { product = product_is _ _ c.requires.a_within c.requires.b_within; within = product_within _ _ c.requires.a_within c.requires.b_within }

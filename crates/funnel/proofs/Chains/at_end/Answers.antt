@@ -2,12 +2,8 @@ use Rattle.std.proofs.Common.{◌<◌, length, arith}
 use Rattle.funnel.proofs.OpenedChains.{alone}
 use Rattle.funnel.proofs.Chains.at_end.Goals as goal
 
-pub returns : goal.returns
-returns g c =
+pub returns-clause-begins : goal.returns-clause-begins
+returns-clause-begins g c some =
     let done = c.push_front.ensures in
-    record {
-      begins = λ places some.
-          let room : 0 < length c.args.slots.now = omega (arith, some, done.size) in
-          alone g.P.PointKind.at _ _ _ _ _ _ c.push_front.result (c.new-row.ensures.empty _) (c.new.ensures.empty places) room done.verdict done.effect;
-      size = done.size;
-    }
+    let room : 0 < length c.args.slots.now = omega (arith, some, done.size) in
+    alone g.P.PointKind.at _ _ _ _ _ _ c.push_front.result (c.new-row.ensures.empty _) (c.new.ensures.empty _) room done.verdict done.effect

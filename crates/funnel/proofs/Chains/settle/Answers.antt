@@ -7,18 +7,14 @@ loop-side-preserved g c =
     let at = g.P.PointKind.at in
     let turn = c.loop-side-test.ensures in (
       λ e n f le h. let a = c.loop-side.invariant.0 e n f le h in
-          let room : n ≤ length c.loop-side.places = omega (arith, le, c.loop-side.invariant.1) in
+          let room : n ≤ length c.loop-side.self.places.now = omega (arith, le, c.loop-side.invariant.1.1) in
           turned_on at e c.args.side (at c.args.from) _ _ _ _ _ _ _ _ n true f a (turn.turns e n a.now room a.holds),
-      turn.size ∙ c.loop-side.invariant.1,
+      (turn.room.0 ∙ c.loop-side.invariant.1.0, turn.room.1 ∙ c.loop-side.invariant.1.1),
     )
 
-pub returns : goal.returns
-returns g c =
+pub returns-clause-settles : goal.returns-clause-settles
+returns-clause-settles g c e n f le h =
     let at = g.P.PointKind.at in
-    let turn = c.loop-side-test.ensures in
-    record {
-      settles = λ e n f le h. let a = c.loop-side.invariant.0 e n f le h in
-          let room : n ≤ length c.loop-side.places = omega (arith, le, c.loop-side.invariant.1) in
-          left_over at e c.args.side (at c.args.from) _ _ _ _ n f (turned_on at e c.args.side (at c.args.from) _ _ _ _ _ _ _ _ n false f a (turn.turns e n a.now room a.holds));
-      size = turn.size ∙ c.loop-side.invariant.1;
-    }
+    let a = c.loop-side.invariant.0 e n f le h in
+    let room : n ≤ length c.loop-side.self.places.now = omega (arith, le, c.loop-side.invariant.1.1) in
+    left_over at e c.args.side (at c.args.from) _ _ _ _ n f (turned_on at e c.args.side (at c.args.from) _ _ _ _ _ _ _ _ n false f a (c.loop-side-test.ensures.turns e n a.now room a.holds))

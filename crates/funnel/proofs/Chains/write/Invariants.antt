@@ -5,4 +5,4 @@ use Rattle.funnel.proofs.WrittenBends.{Partly}
 use Rattle.funnel.proofs.Chains.write.Given as goal
 
 abbrev pub invariant-loop-k : goal.invariant-loop-k
-invariant-loop-k g l = l.self.near ≤ length (contents l.self.row l.slots) → Partly (string_of l.self l.slots l.places) l.initial.out l.k l.out
+invariant-loop-k g l = l.self.near ≤ length (contents l.self.row l.self.slots.now) → Partly (string_of l.self) l.initial.out l.k l.out

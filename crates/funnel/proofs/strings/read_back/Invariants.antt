@@ -1,7 +1,7 @@
-use Rattle.std.proofs.Common.{drop}
+use Rattle.std.proofs.Common.{map, reverse}
 use Rattle.funnel.proofs.ReadBack.{Reading}
 use Rattle.funnel.proofs.strings.read_back.Given as goal
 
-abbrev pub invariant-loop-k : goal.invariant-loop-k
-invariant-loop-k g l =
-    Reading g.M.Point.PointKind.at (g.M.Mesh.surface l.mesh) l.initial.present l.initial.chains l.initial.slots l.initial.places (drop l.k l.crossings) l.present l.chains l.slots l.places
+abbrev pub invariant-loop-crossing : goal.invariant-loop-crossing
+invariant-loop-crossing g l =
+    Reading g.M.Point.PointKind.at (g.M.Mesh.surface l.mesh) l.initial.present l.initial.chains (reverse (map (λ b. b.now) l.yielded)) l.present l.chains

@@ -1,5 +1,5 @@
 use Rattle.std.proofs.Common.{◌≡◌, map, drop}
-use Rattle.algebra.specs.Values.{value}
+use Rattle.coordinates.specs.Values.{value}
 use Rattle.geometry.specs.Points.{step_value}
 use Rattle.gauge.specs.Measure.{top}
 use Rattle.gauge.specs.Forms.{form_value}

@@ -1,13 +1,13 @@
-use Rattle.std.proofs.Common.{refl}
 use Rattle.surfaces.proofs.SheetCells.{cells_by_number}
 use Rattle.surfaces.proofs.SheetEnds.{twins_by_ends}
 use Rattle.surfaces.proofs.SheetLawful.{sheet_lawful}
 use Rattle.surfaces.proofs.laws.sheets_stand.Goals as goal
 
-pub returns : goal.returns
-returns c = record {
-  lawful = sheet_lawful;
-  cells = cells_by_number;
-  twins = twins_by_ends;
-  small = record { triangles = refl; vertices = refl; first = refl; second = refl; third = refl; twin = refl };
-}
+pub returns-clause-lawful : goal.returns-clause-lawful
+returns-clause-lawful c = sheet_lawful
+
+pub returns-clause-cells : goal.returns-clause-cells
+returns-clause-cells c = cells_by_number
+
+pub returns-clause-twins : goal.returns-clause-twins
+returns-clause-twins c = twins_by_ends

@@ -5,4 +5,4 @@ use Rattle.gauge.proofs.Magnitude.{l1_is}
 use Rattle.gauge.proofs.supplied.L1Gauge.measure.Goals as goal
 
 pub returns : goal.returns
-returns c = c.plus.ensures ∙ (λ i. c.magnitude.ensures i ⊕ c.magnitude-2.ensures i) ∙ l1_is (step_value c.args.step)
+returns c = c.add.ensures ∙ (λ i. c.magnitude.ensures i ⊕ c.magnitude-2.ensures i) ∙ l1_is (step_value c.args.step)

@@ -1,8 +1,0 @@
-use Rattle.std.proofs.Common.{subst, arith}
-use Rattle.std.proofs.lemmas.Int.{ints}
-use Rattle.algebra.specs.Values.{Fitted}
-use Rattle.algebra.proofs.Magnitudes.{same_number}
-use Rattle.algebra.proofs.Quadratic.sum.Goals as goal
-
-pub returns : goal.returns
-returns c = subst (Fitted c.new.result) (same_number (omega (arith, ints)) (omega (arith, ints))) c.new.ensures

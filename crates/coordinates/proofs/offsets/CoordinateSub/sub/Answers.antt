@@ -1,0 +1,7 @@
+use Rattle.std.proofs.Common.{arith}
+use Rattle.std.proofs.lemmas.Int.{ints}
+use Rattle.algebra.proofs.Magnitudes.{same_number}
+use Rattle.coordinates.proofs.offsets.CoordinateSub.sub.Goals as goal
+
+pub returns : goal.returns
+returns c = same_number (omega (arith, ints)) (omega (arith, ints))
