@@ -4,11 +4,11 @@ use Rattle.std.proofs.lemmas.Int.{ints, unsigned_abs-mul}
 use Rattle.algebra.specs.Bounds.{Within}
 use Rattle.algebra.specs.Number.{number}
 
-abs_from : (n : ℕ) (z : ℤ) → Within n z → unsigned_abs z ≤ n
+pub abs_from : (n : ℕ) (z : ℤ) → Within n z → unsigned_abs z ≤ n
 abs_from n (pos a) (l, h) = omega (arith, ints)
 abs_from n (negsuc a) (l, h) = omega (arith, ints)
 
-within_from : (n : ℕ) (z : ℤ) → unsigned_abs z ≤ n → Within n z
+pub within_from : (n : ℕ) (z : ℤ) → unsigned_abs z ≤ n → Within n z
 within_from n (pos a) h = (omega (arith, ints), omega (arith, ints))
 within_from n (negsuc a) h = (omega (arith, ints), omega (arith, ints))
 

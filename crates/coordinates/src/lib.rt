@@ -7,6 +7,7 @@ ghost use Rattle.algebra.specs.Bounds.{Within};
 pub mod numbers;
 pub mod offsets;
 pub mod order;
+pub mod packing;
 pub mod products;
 pub mod text;
 
@@ -22,6 +23,15 @@ pub struct Surd<const MOST: u64> {
 
 // A coordinate of a point.
 pub type Coordinate = Surd<10_000>;
+
+// A coordinate as a point keeps it, with parts of 32 bits: so a row of points takes no more room than the numbers that it was made of.
+#[derive(Debug, Clone, Copy, PartialEq, Eq)]
+pub struct Packed {
+    pub p: i32,
+    pub q: i32,
+    ghost p_within: { Within 10000 p },
+    ghost q_within: { Within 10000 q },
+}
 
 // A difference of two coordinates.
 pub type Offset = Surd<20_000>;

@@ -1,2 +1,3 @@
 pub mod RingOfPlaces
 pub mod ListEquations
+pub mod Popping

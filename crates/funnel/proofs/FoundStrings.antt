@@ -21,7 +21,7 @@ use Rattle.walks.proofs.Sleeves.{exactly_one}
 use Rattle.funnel.specs.declared.Corner.{Corner}
 use Rattle.funnel.specs.declared.Portal.{Portal}
 use Rattle.funnel.specs.declared.Bend.{Bend}
-use Rattle.funnel.specs.declared.Chains.{Chains}
+use Rattle.funnel.specs.declared.Working.{Working}
 use Rattle.funnel.specs.Corners.{vertex_meant, portal_meant, bend_meant}
 use Rattle.funnel.specs.Chains.{bend_of, Stands, SameRoom, Opens, Settles, settled}
 use Rattle.funnel.specs.Strings.{funnel_of, Reads, as_bend, own_bend, string_of, Writes, Found, Taut, memory_refusal}
@@ -65,26 +65,26 @@ module _ (f : Surface) where
     bends_meant [] finals all = finals_meant finals all
     bends_meant (c ∷ nears) finals (here, all) = λ i. record { side = Left; vertex = record { number = c.vertex.0; point = here i } } ∷ bends_meant nears finals all i
 
-    module _ (s e : Point) (w : List Crossing) (d : Chains P) (n : ℕ) (h : Stands at e Left d n (settled at e Left s (funnel_of e (portals f w)))) where
+    module _ (s e : Point) (w : List Crossing) (d : Working P) (n : ℕ) (h : Stands at e Left d n (settled at e Left s (funnel_of e (portals f w)))) where
       corners : List (Corner P)
-      corners = contents d.bends d.places.now
+      corners = contents d.chains.bends d.places.now
 
-      near_first : take d.near (contents d.row d.slots.now) ≡ h.nears
+      near_first : take d.chains.near (contents d.chains.row d.slots.now) ≡ h.nears
       near_first = (λ i. take (h.near_count i) (h.parts i)) ∙ take-append_seam h.nears (h.apex ∷ h.fars)
 
-      near_fits : d.near ≤ length (contents d.row d.slots.now)
+      near_fits : d.chains.near ≤ length (contents d.chains.row d.slots.now)
       near_fits = omega (arith, h.near_count, ap length h.parts, length-append h.nears (h.apex ∷ h.fars))
 
-      string_is : string_of d ≡ map (as_bend Left) h.nears ++ map own_bend (contents d.bends d.places.now)
-      string_is = ap (λ l. map (as_bend Left) l ++ map own_bend (contents d.bends d.places.now)) near_first
+      string_is : string_of d ≡ map (as_bend Left) h.nears ++ map own_bend (contents d.chains.bends d.places.now)
+      string_is = ap (λ l. map (as_bend Left) l ++ map own_bend (contents d.chains.bends d.places.now)) near_first
 
-      turnings_are : turnings h.nears (contents d.bends d.places.now) ≡ funnel quadratics sign s (portals f w) e
+      turnings_are : turnings h.nears (contents d.chains.bends d.places.now) ≡ funnel quadratics sign s (portals f w) e
       turnings_are = ap (λ g. bends Left g.near ++ g.final) h.is ∙ seen_whole s e (portals f w)
 
       meant_are : map (bend_meant f) (string_of d) ≡ funnel quadratics sign s (portals f w) e
       meant_are =
           ap (map (bend_meant f)) string_is
-          ∙ bends_meant h.nears (contents d.bends d.places.now) (subst (Each (λ b. Placed b.vertex)) (sym turnings_are) (funnel_made quadratics sign Placed s (portals f w) e (ends_placed w)))
+          ∙ bends_meant h.nears (contents d.chains.bends d.places.now) (subst (Each (λ b. Placed b.vertex)) (sym turnings_are) (funnel_made quadratics sign Placed s (portals f w) e (ends_placed w)))
           ∙ turnings_are
 
       few_bends : length (string_of d) ≤ length w
@@ -99,7 +99,7 @@ module _ (f : Surface) where
             behind = written.behind;
           }
 
-    pub found_some : (s : Point) (x : P) (rest w : List Crossing) (last : Crossing) (portal : Portal P) (d₀ d₁ d₂ : Chains P) (slots places : List (Corner P)) (m : ℕ) (out out' : List Bend)
+    pub found_some : (s : Point) (x : P) (rest w : List Crossing) (last : Crossing) (portal : Portal P) (d₀ d₁ d₂ : Working P) (slots places : List (Corner P)) (m : ℕ) (out out' : List Bend)
         → w ≡ rest ++ last ∷ [] → portal_meant at portal ≡ portal_of f last
         → Opens at x portal d₀ → (length d₀.slots.now ≡ length slots) × (length d₀.places.now ≡ length places)
         → Reads at f rest portal d₀ d₁ → SameRoom d₀ d₁

@@ -1,4 +1,4 @@
--- A double-ended list read from the right: what a look, a pop and a push at its back are, as it is seen from there.
+-- What looks and pops say of a row, from whichever side it is seen: a place that holds nothing is behind its end, and a pop takes the first element of a row that is known.
 use Rattle.std.proofs.Common.{◌≡◌, ℕ, zero, suc, ◌≤◌, List, [], ◌∷◌, length, Some, None, Option, sym, ap, ◌∙◌, arith, MatchOption}
 use Rattle.std.specs.List.{slice_get}
 

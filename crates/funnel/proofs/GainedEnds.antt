@@ -10,7 +10,7 @@ use Rattle.taut.specs.Funnel.{Funnel, push, flip}
 use Rattle.funnel.specs.declared.Corner.{Corner}
 use Rattle.funnel.specs.Corners.{vertex_meant}
 use Rattle.funnel.specs.Ends.{seen}
-use Rattle.funnel.specs.declared.Chains.{Chains}
+use Rattle.funnel.specs.declared.Working.{Working}
 use Rattle.funnel.specs.Chains.{SameRoom, meant, Holds, Flips, Nears, Gains}
 
 seen_other : {X : Type 0} (t : Side) (l : List X) → seen (other t) l ≡ reverse (seen t l)
@@ -55,13 +55,13 @@ number Left = 0
 number Right = 1
 
 module _ {P : Type 0} (at : P → Point) where
-  pub gained_left : (t : Side) → t ≡ Left → (c : Corner P) (d d' : Chains P) → Nears at t c d d' → Gains at t c d d'
+  pub gained_left : (t : Side) → t ≡ Left → (c : Corner P) (d d' : Working P) → Nears at t c d d' → Gains at t c d d'
   gained_left Left is c d d' nears = nears
   gained_left Right is c d d' nears =
       let no : 1 ≡ 0 = ap number is in
       absurd (omega (arith, no))
 
-  pub gained_right : (t : Side) → t ≡ Right → (c : Corner P) (d d₁ d₂ d₃ : Chains P) → SameRoom d d₁
+  pub gained_right : (t : Side) → t ≡ Right → (c : Corner P) (d d₁ d₂ d₃ : Working P) → SameRoom d d₁
       → Flips at d d₁ → Nears at t c d₁ d₂ → Flips at d₂ d₃ → Gains at t c d d₃
   gained_right Right is c d d₁ d₂ d₃ same turn nears back =
       λ e n f room fits h. back e Right (n + 1) _ (nears e n (flip f) (omega (arith, room, same.0)) (omega (arith, fits, same.1)) (turn e Left n f h))

@@ -10,7 +10,7 @@ use Rattle.taut.specs.Funnel.{funnel_at}
 use Rattle.mesh.specs.Surface.{Surface}
 use Rattle.walks.specs.Walks.{portal_of, portals}
 use Rattle.funnel.specs.declared.Portal.{Portal}
-use Rattle.funnel.specs.declared.Chains.{Chains}
+use Rattle.funnel.specs.declared.Working.{Working}
 use Rattle.funnel.specs.Corners.{portal_meant}
 use Rattle.funnel.specs.Chains.{Stands, SameRoom, Widens}
 
@@ -30,19 +30,19 @@ but_last w none some = parted w (length w - 1) none (omega arith)
 
 module _ {P : Type 0} (at : P → Point) (f : Surface) where
   -- the chains stand for the funnel at the present portal, which is the first of these
-  pub record At (e : Point) (n : ℕ) (row : List (Passage Number)) (present : Portal P) (d : Chains P) : Type 0 where
+  pub record At (e : Point) (n : ℕ) (row : List (Passage Number)) (present : Portal P) (d : Working P) : Type 0 where
     pub rest : List (Passage Number)
     pub parts : row ≡ portal_meant at present ∷ rest
     pub stands : Stands at e Left d n (funnel_at quadratics sign e (portal_meant at present) rest)
 
-  module _ (q : Portal P) (d₀ : Chains P) where
-    pub record Reading (row : List Crossing) (present : Portal P) (d : Chains P) : Type 0 where
+  module _ (q : Portal P) (d₀ : Working P) where
+    pub record Reading (row : List Crossing) (present : Portal P) (d : Working P) : Type 0 where
       pub room : SameRoom d₀ d
       pub reads : (e : Point) (n : ℕ) (ps : List (Passage Number)) → n + length row < length d₀.slots.now → n + length row ≤ length d₀.places.now + 1
           → Stands at e Left d₀ n (funnel_at quadratics sign e (portal_meant at q) ps)
           → At e (n + length row) (portals f row ++ portal_meant at q ∷ ps) present d
 
-    pub one_read : (row more : List Crossing) (c : Crossing) (before present : Portal P) (d d' : Chains P) → more ≡ c ∷ row
+    pub one_read : (row more : List Crossing) (c : Crossing) (before present : Portal P) (d d' : Working P) → more ≡ c ∷ row
         → portal_meant at before ≡ portal_of f c → Widens at before present d d' → SameRoom d d'
         → Reading row present d → Reading more before d'
     one_read row more c before present d d' eq is widens same h =

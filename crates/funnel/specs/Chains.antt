@@ -30,13 +30,13 @@ use Rattle.taut.specs.Sleeve.{other}
 use Rattle.taut.specs.TautString.{Bend, aim}
 use Rattle.taut.specs.Funnel.{Funnel, settle, push, flip, gain, widen, funnel_at}
 use Rattle.funnel.specs.declared.Corner.{Corner}
-use Rattle.funnel.specs.declared.Chains.{Chains}
+use Rattle.funnel.specs.declared.Working.{Working}
 use Rattle.funnel.specs.declared.Portal.{Portal}
 use Rattle.funnel.specs.Corners.{vertex_meant, portal_meant}
 use Rattle.funnel.specs.Ends.{seen}
 
 module _ {P : Type 0} where
-  abbrev pub SameRoom : Chains P → Chains P → Type 0
+  abbrev pub SameRoom : Working P → Working P → Type 0
   SameRoom d d' = (length d'.slots.now ≡ length d.slots.now) × (length d'.places.now ≡ length d.places.now)
 
 module _ {P : Type 0} (at : P → Point) where
@@ -57,8 +57,8 @@ module _ {P : Type 0} (at : P → Point) where
     pub is : meant nears bends fars ≡ f
     pub few : near + far + length bends ≤ n
 
-  abbrev pub Stands : Point → Side → Chains P → ℕ → Funnel Number → Type 0
-  Stands e t d n f = Holds e (seen t (contents d.row d.slots.now)) d.near d.far (contents d.bends d.places.now) n f
+  abbrev pub Stands : Point → Side → Working P → ℕ → Funnel Number → Type 0
+  Stands e t d n f = Holds e (seen t (contents d.chains.row d.slots.now)) d.chains.near d.chains.far (contents d.chains.bends d.places.now) n f
 
   abbrev pub settled : Point → Side → Point → Funnel Number → Funnel Number
   settled e t y f = settle quadratics sign e t y f.near f.final f.far
@@ -69,36 +69,36 @@ module _ {P : Type 0} (at : P → Point) where
     pub same : settled e t y f ≡ settled e t y now
     pub done : more ≡ false → settled e t y now ≡ now
 
-  abbrev pub Turns : Side → Point → Chains P → Chains P → Bool → Type 0
+  abbrev pub Turns : Side → Point → Working P → Working P → Bool → Type 0
   Turns t y d d' more = (e : Point) (n : ℕ) (f : Funnel Number) → n ≤ length d.places.now → Stands e t d n f
-      → Turned e t y f (seen t (contents d'.row d'.slots.now)) d'.near d'.far (contents d'.bends d'.places.now) n more
+      → Turned e t y f (seen t (contents d'.chains.row d'.slots.now)) d'.chains.near d'.chains.far (contents d'.chains.bends d'.places.now) n more
 
-  abbrev pub Settles : Side → Point → Chains P → Chains P → Type 0
+  abbrev pub Settles : Side → Point → Working P → Working P → Type 0
   Settles t y d d' = (e : Point) (n : ℕ) (f : Funnel Number) → n ≤ length d.places.now → Stands e t d n f → Stands e t d' n (settled e t y f)
 
-  abbrev pub Pushes : Side → Corner P → Chains P → Chains P → Type 0
+  abbrev pub Pushes : Side → Corner P → Working P → Working P → Type 0
   Pushes t c d d' = (e : Point) (n : ℕ) (f : Funnel Number) → n + 1 < length d.slots.now → Stands e t d n f → Stands e t d' (n + 1) (push (vertex_meant at c) f)
 
-  abbrev pub Flips : Chains P → Chains P → Type 0
+  abbrev pub Flips : Working P → Working P → Type 0
   Flips d d' = (e : Point) (t : Side) (n : ℕ) (f : Funnel Number) → Stands e t d n f → Stands e (other t) d' n (flip f)
 
-  abbrev pub Nears : Side → Corner P → Chains P → Chains P → Type 0
+  abbrev pub Nears : Side → Corner P → Working P → Working P → Type 0
   Nears t c d d' = (e : Point) (n : ℕ) (f : Funnel Number) → n + 1 < length d.slots.now → n ≤ length d.places.now → Stands e t d n f
       → Stands e t d' (n + 1) (push (vertex_meant at c) (settled e t (at c.point) f))
 
-  abbrev pub Gains : Side → Corner P → Chains P → Chains P → Type 0
+  abbrev pub Gains : Side → Corner P → Working P → Working P → Type 0
   Gains t c d d' = (e : Point) (n : ℕ) (f : Funnel Number) → n + 1 < length d.slots.now → n ≤ length d.places.now → Stands e Left d n f
       → Stands e Left d' (n + 1) (gain quadratics sign e t (vertex_meant at c) f)
 
-  abbrev pub Widens : Portal P → Portal P → Chains P → Chains P → Type 0
+  abbrev pub Widens : Portal P → Portal P → Working P → Working P → Type 0
   Widens p q d d' = (e : Point) (n : ℕ) (f : Funnel Number) → n + 1 < length d.slots.now → n ≤ length d.places.now → Stands e Left d n f
       → Stands e Left d' (n + 1) (widen quadratics sign e (portal_meant at p) (portal_meant at q) f)
 
   abbrev pub no_chains : Funnel Number
   no_chains = record { near = []; final = []; far = [] }
 
-  abbrev pub Begins : P → Chains P → Type 0
+  abbrev pub Begins : P → Working P → Type 0
   Begins x d = 0 < length d.slots.now → Stands (at x) Left d 0 no_chains
 
-  abbrev pub Opens : P → Portal P → Chains P → Type 0
+  abbrev pub Opens : P → Portal P → Working P → Type 0
   Opens x p d = 2 < length d.slots.now → Stands (at x) Left d 2 (funnel_at quadratics sign (at x) (portal_meant at p) [])

@@ -24,7 +24,7 @@ use Rattle.walks.specs.Walks.{portals, Joins, TautOf}
 use Rattle.funnel.specs.declared.Corner.{Corner}
 use Rattle.funnel.specs.declared.Portal.{Portal}
 use Rattle.funnel.specs.declared.Bend.{Bend}
-use Rattle.funnel.specs.declared.Chains.{Chains}
+use Rattle.funnel.specs.declared.Working.{Working}
 use Rattle.funnel.specs.Corners.{portal_meant, bend_meant}
 use Rattle.funnel.specs.Chains.{Stands}
 
@@ -33,7 +33,7 @@ funnel_of e [] = record { near = []; final = []; far = [] }
 funnel_of e (p ∷ ps) = funnel_at quadratics sign e p ps
 
 module _ {P : Type 0} (at : P → Point) (f : Surface) where
-  abbrev pub Reads : List Crossing → Portal P → Chains P → Chains P → Type 0
+  abbrev pub Reads : List Crossing → Portal P → Working P → Working P → Type 0
   Reads w q d d' = (e : Point) (n : ℕ) (ps : List (Passage Number)) → n + length w < length d.slots.now → n + length w ≤ length d.places.now + 1
       → Stands at e Left d n (funnel_at quadratics sign e (portal_meant at q) ps)
       → Stands at e Left d' (n + length w) (funnel_of e (portals f w ++ portal_meant at q ∷ ps))
@@ -45,8 +45,8 @@ module _ {P : Type 0} where
   abbrev pub own_bend : Corner P → Bend
   own_bend c = as_bend c.side c
 
-  abbrev pub string_of : Chains P → List Bend
-  string_of d = map (as_bend Left) (take d.near (contents d.row d.slots.now)) ++ map own_bend (contents d.bends d.places.now)
+  abbrev pub string_of : Working P → List Bend
+  string_of d = map (as_bend Left) (take d.chains.near (contents d.chains.row d.slots.now)) ++ map own_bend (contents d.chains.bends d.places.now)
 
 pub record Written (bs : List Bend) (m : ℕ) (out out' : List Bend) : Type 0 where
   pub front : take m out' ≡ bs
@@ -54,8 +54,8 @@ pub record Written (bs : List Bend) (m : ℕ) (out out' : List Bend) : Type 0 wh
   pub count : m ≡ length bs
 
 module _ {P : Type 0} where
-  abbrev pub Writes : Chains P → ℕ → List Bend → List Bend → Type 0
-  Writes d m out out' = d.near ≤ length (contents d.row d.slots.now) → length (string_of d) ≤ length out → Written (string_of d) m out out'
+  abbrev pub Writes : Working P → ℕ → List Bend → List Bend → Type 0
+  Writes d m out out' = d.chains.near ≤ length (contents d.chains.row d.slots.now) → length (string_of d) ≤ length out → Written (string_of d) m out out'
 
 pub record Found (f : Surface) (s : Point) (w : List Crossing) (e : Point) (m : ℕ) (out out' : List Bend) : Type 0 where
   pub few : m ≤ length w

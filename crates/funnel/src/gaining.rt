@@ -2,20 +2,20 @@
 ghost use Rattle.funnel.specs.Chains.{SameRoom, Pushes, Flips, Nears, Gains, Widens};
 
 use crate::ends::push;
-use crate::{Chains, Corner, Portal};
+use crate::{Corner, Portal, Working};
 use geometry::kinds::PointKind;
 use taut::Side;
 
-impl<P: PointKind> Chains<'_, P> {
+impl<P: PointKind> Working<'_, P> {
     // Puts a corner at the near end.
     pub(crate) fn push_near(&mut self, side: Side, corner: Corner<P>)
         ensures pushes { Pushes P.at side corner self.old self.new }
         ensures room { SameRoom self.old self.new }
     {
-        let Ok(()) = push(&mut self.row, self.slots, side, corner) else {
+        let Ok(()) = push(&mut self.chains.row, self.slots, side, corner) else {
             return;
         };
-        self.near = self.near.saturating_add(1);
+        self.chains.near = self.chains.near.saturating_add(1);
     }
 
     // Turns to the other side.
@@ -23,7 +23,7 @@ impl<P: PointKind> Chains<'_, P> {
         ensures flips { Flips P.at self.old self.new }
         ensures room { SameRoom self.old self.new }
     {
-        std::mem::swap(&mut self.near, &mut self.far);
+        std::mem::swap(&mut self.chains.near, &mut self.chains.far);
     }
 
     // Settles the chains for a new near end and puts it there.

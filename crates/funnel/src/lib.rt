@@ -38,14 +38,20 @@ pub struct Bend {
 
 // A funnel as it is seen from a side. Its row of corners is the near chain, the apex and the far chain, the near end at that side;
 // `near` and `far` say how many corners the chains have. The bends that are final are a list too, the apex first if it is one.
-// The row stands in `slots` and the bends in `places`. Each call says that these keep their size (`SameRoom`): no invariant speaks of two moments.
-// The side from which it is seen goes with each call: kept here it would have to be turned, and said, wherever the view turns.
-#[derive(Drop)]
-pub struct Chains<'w, P: Copy> {
-    slots: &'w mut [Corner<P>],
-    places: &'w mut [Corner<P>],
+#[derive(Clone, Copy)]
+pub struct Chains<P: Copy> {
     row: Deque<Corner<P>>,
     bends: Deque<Corner<P>>,
     near: usize,
     far: usize,
+}
+
+// Chains with the memory that they stand in: the row in `slots` and the bends in `places`.
+// Each call says that these keep their size (`SameRoom`): no invariant speaks of two moments.
+// The side from which it is seen goes with each call: kept here it would have to be turned, and said, wherever the view turns.
+#[derive(Drop)]
+pub(crate) struct Working<'w, P: Copy> {
+    slots: &'w mut [Corner<P>],
+    places: &'w mut [Corner<P>],
+    chains: Chains<P>,
 }

@@ -9,7 +9,7 @@ ghost use Rattle.taut.specs.Funnel.{bears, Funnel};
 ghost use Rattle.funnel.specs.Chains.{SameRoom, Turns, Settles};
 
 use crate::ends::{first_two, other, pop};
-use crate::{Chains, Corner};
+use crate::{Corner, Working};
 use geometry::Turn;
 use geometry::kinds::PointKind;
 use taut::Side;
@@ -26,16 +26,16 @@ fn bears<P: PointKind>(side: Side, a: P, b: P, c: P) -> bool
 }
 
 // A memory that is only read is borrowed by name first, since its list is lent beside it.
-impl<P: PointKind> Chains<'_, P> {
+impl<P: PointKind> Working<'_, P> {
     // Drops the corner at the near end, unless it turns strictly to the side on the way from a point.
     fn drop_near(&mut self, side: Side, from: P) -> bool
-        requires { 0 < self.old.near }
+        requires { 0 < self.old.chains.near }
         ensures turns { Turns P.at side (P.at from) self.old self.new result }
-        ensures fewer { result ≡ true → self.new.near + self.new.far < self.old.near + self.old.far }
+        ensures fewer { result ≡ true → self.new.chains.near + self.new.chains.far < self.old.chains.near + self.old.chains.far }
         ensures room { SameRoom self.old self.new }
     {
         let slots = &mut *self.slots;
-        let Some((corner, next)) = first_two(&self.row, slots, side) else {
+        let Some((corner, next)) = first_two(&self.chains.row, slots, side) else {
             return false;
         };
         // Where the way over the corner only touches it, the corner goes.
@@ -43,37 +43,37 @@ impl<P: PointKind> Chains<'_, P> {
         if stays {
             return false;
         }
-        pop(&mut self.row, slots, side);
-        self.near -= 1;
+        pop(&mut self.chains.row, slots, side);
+        self.chains.near -= 1;
         true
     }
 
     // Takes the apex off the row, so that the next corner of the far chain is the apex.
     fn pass_apex(&mut self, side: Side) -> Option<Corner<P>>
-        requires { 0 < self.old.far }
+        requires { 0 < self.old.chains.far }
         ensures row { MatchOption result
-            ((seen side (contents self.old.row self.old.slots.now) ≡ []) × (self.new.row ≡ self.old.row))
-            (λ x. seen side (contents self.old.row self.old.slots.now) ≡ x ∷ seen side (contents self.new.row self.new.slots.now)) }
-        ensures near { self.new.near ≡ self.old.near }
-        ensures far { self.new.far + 1 ≡ self.old.far }
-        ensures bends { contents self.new.bends self.new.places.now ≡ contents self.old.bends self.old.places.now }
+            ((seen side (contents self.old.chains.row self.old.slots.now) ≡ []) × (self.new.chains.row ≡ self.old.chains.row))
+            (λ x. seen side (contents self.old.chains.row self.old.slots.now) ≡ x ∷ seen side (contents self.new.chains.row self.new.slots.now)) }
+        ensures near { self.new.chains.near ≡ self.old.chains.near }
+        ensures far { self.new.chains.far + 1 ≡ self.old.chains.far }
+        ensures bends { contents self.new.chains.bends self.new.places.now ≡ contents self.old.chains.bends self.old.places.now }
         ensures room { SameRoom self.old self.new }
     {
         let slots = &mut *self.slots;
-        let apex = pop(&mut self.row, slots, side);
-        self.far -= 1;
+        let apex = pop(&mut self.chains.row, slots, side);
+        self.chains.far -= 1;
         apex
     }
 
     // Makes the next corner of the far chain the apex and a bend, if it stands strictly in the way from a point to the apex.
     fn move_apex(&mut self, side: Side, from: P) -> bool
-        requires { (self.old.near ≡ 0) × (0 < self.old.far) }
+        requires { (self.old.chains.near ≡ 0) × (0 < self.old.chains.far) }
         ensures turns { Turns P.at side (P.at from) self.old self.new result }
-        ensures fewer { result ≡ true → self.new.near + self.new.far < self.old.near + self.old.far }
+        ensures fewer { result ≡ true → self.new.chains.near + self.new.chains.far < self.old.chains.near + self.old.chains.far }
         ensures room { SameRoom self.old self.new }
     {
         let slots = &mut *self.slots;
-        let Some((apex, next)) = first_two(&self.row, slots, side) else {
+        let Some((apex, next)) = first_two(&self.chains.row, slots, side) else {
             return false;
         };
         let across = other(side);
@@ -87,7 +87,7 @@ impl<P: PointKind> Chains<'_, P> {
             side: across,
             point: next.point,
         };
-        let Ok(()) = self.bends.push_front(self.places, bend) else {
+        let Ok(()) = self.chains.bends.push_front(self.places, bend) else {
             return false;
         };
         self.pass_apex(side);
@@ -97,12 +97,12 @@ impl<P: PointKind> Chains<'_, P> {
     // One turn of the loop: whether it changed anything.
     fn drop_corner(&mut self, side: Side, from: P) -> bool
         ensures turns { Turns P.at side (P.at from) self.old self.new result }
-        ensures fewer { result ≡ true → self.new.near + self.new.far < self.old.near + self.old.far }
+        ensures fewer { result ≡ true → self.new.chains.near + self.new.chains.far < self.old.chains.near + self.old.chains.far }
         ensures room { SameRoom self.old self.new }
     {
-        if self.near > 0 {
+        if self.chains.near > 0 {
             self.drop_near(side, from)
-        } else if self.far > 0 {
+        } else if self.chains.far > 0 {
             self.move_apex(side, from)
         } else {
             false

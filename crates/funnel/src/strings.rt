@@ -7,7 +7,7 @@ ghost use Rattle.base.specs.Refusals.{refusal};
 ghost use Rattle.funnel.specs.Strings.{Reads, Found, Taut, working_places, memory_refusal};
 
 use crate::portals::portal_of;
-use crate::{Bend, Chains, Corner, Portal};
+use crate::{Bend, Corner, Portal, Working};
 use base::refusals::Refusal;
 use meshes::Mesh;
 use words::sorts::Crossing;
@@ -17,7 +17,7 @@ fn step_back<M: Mesh>(
     mesh: &M,
     crossing: Crossing,
     present: Portal<M::Point>,
-    chains: &mut Chains<'_, M::Point>,
+    chains: &mut Working<'_, M::Point>,
 ) -> Portal<M::Point>
     ensures portal { portal_meant M.Point.PointKind.at result ≡ portal_of (M.surface mesh.now) crossing }
     ensures widens { Widens M.Point.PointKind.at result present chains.old chains.new }
@@ -33,7 +33,7 @@ fn read_back<M: Mesh>(
     mesh: &M,
     crossings: &[Crossing],
     mut present: Portal<M::Point>,
-    chains: &mut Chains<'_, M::Point>,
+    chains: &mut Working<'_, M::Point>,
 )
     ensures reads { Reads M.Point.PointKind.at (M.surface mesh.now) crossings.now present chains.old chains.new }
     ensures room { SameRoom chains.old chains.new }
@@ -84,7 +84,7 @@ fn string_within<M: Mesh>(
     };
     let (slots, places) = working.split_at_mut(crossings.len() + 2);
     let portal = portal_of(mesh, *last);
-    let mut chains = Chains::open(slots, places, end, portal);
+    let mut chains = Working::open(slots, places, end, portal);
     read_back(mesh, rest, portal, &mut chains);
     chains.meet_start(start);
     chains.write(out)

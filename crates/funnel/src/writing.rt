@@ -4,24 +4,24 @@ ghost use Rattle.std.specs.List.{slice_get};
 ghost use Rattle.deque.specs.Contents.{contents};
 ghost use Rattle.funnel.specs.Strings.{string_of, Writes};
 
-use crate::{Bend, Chains};
+use crate::{Bend, Working};
 use geometry::kinds::PointKind;
 use taut::Side;
 
-impl<P: PointKind> Chains<'_, P> {
+impl<P: PointKind> Working<'_, P> {
     // Bend `k` as it is seen from the start: the left chain comes first, then the bends that are final.
     fn bend(&self, k: usize) -> Option<Bend>
-        ensures { self.now.near ≤ length (contents self.now.row self.now.slots.now)
+        ensures { self.now.chains.near ≤ length (contents self.now.chains.row self.now.slots.now)
             → result ≡ slice_get (string_of self.now) k }
     {
-        if k < self.near {
-            let corner = self.row.get(self.slots, k)?;
+        if k < self.chains.near {
+            let corner = self.chains.row.get(self.slots, k)?;
             return Some(Bend {
                 vertex: corner.vertex,
                 side: Side::Left,
             });
         }
-        let corner = self.bends.get(self.places, k - self.near)?;
+        let corner = self.chains.bends.get(self.places, k - self.chains.near)?;
         Some(Bend {
             vertex: corner.vertex,
             side: corner.side,

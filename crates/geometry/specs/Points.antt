@@ -4,7 +4,7 @@
 use Rattle.std.specs.Prelude.{pos}
 use Rattle.algebra.specs.Number.{Number, number}
 use Rattle.algebra.specs.Plane.{Vec}
-use Rattle.coordinates.specs.Values.{value}
+use Rattle.coordinates.specs.Values.{value, packed_value}
 use Rattle.coordinates.specs.declared.Step.{Step}
 use Rattle.geometry.specs.declared.IntegerPoint.{IntegerPoint}
 use Rattle.geometry.specs.declared.QuadraticPoint.{QuadraticPoint}
@@ -19,7 +19,7 @@ abbrev pub integer_point : IntegerPoint → Point
 integer_point a = point (number a.x (pos 0)) (number a.y (pos 0))
 
 abbrev pub quadratic_point : QuadraticPoint → Point
-quadratic_point a = point (value a.x) (value a.y)
+quadratic_point a = point (packed_value a.x) (packed_value a.y)
 
 abbrev pub integer_row : IntegerRow → Point
 integer_row a = point (number a.x (pos 0)) (number a.y (pos 0))

@@ -8,8 +8,8 @@ use Rattle.base.specs.declared.refusals.Axis.TheVariants.{X, Y}
 use Rattle.base.specs.declared.refusals.Refusal.{Refusal}
 use Rattle.base.specs.declared.refusals.Refusal.TheVariants.{PointRange}
 use Rattle.algebra.specs.Number.{Number}
-use Rattle.coordinates.specs.Values.{value}
-use Rattle.coordinates.specs.declared.Surd.{Surd}
+use Rattle.coordinates.specs.Values.{packed_value}
+use Rattle.coordinates.specs.declared.Packed.{Packed}
 use Rattle.geometry.specs.Plane.{Point}
 
 abbrev pub in_range : ℤ → Bool
@@ -21,8 +21,8 @@ number_in_range a = in_range a.p && in_range a.q
 abbrev pub point_refusal : Point → Option Refusal
 point_refusal a = cond (number_in_range a.x) (cond (number_in_range a.y) None (Some (PointRange Y))) (Some (PointRange X))
 
-abbrev pub Placed : Result (Surd 10000) Refusal → Number → Axis → Type 0
-Placed (Ok r) a axis = (number_in_range a ≡ true) × (value r ≡ a)
+abbrev pub Placed : Result Packed Refusal → Number → Axis → Type 0
+Placed (Ok r) a axis = (number_in_range a ≡ true) × (packed_value r ≡ a)
 Placed (Err e) a axis = (number_in_range a ≡ false) × (e ≡ PointRange axis)
 
 abbrev pub Made : {P : Type 0} → (P → Point) → Result P Refusal → Point → Type 0

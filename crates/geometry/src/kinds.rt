@@ -24,10 +24,6 @@ pub trait PointKind: Copy {
     fn make(row: Self::Row) -> Result<Self, Refusal>
         ensures { Made at result (written row) };
 
-    // The point with both coordinates 0.
-    fn origin() -> Self
-        ensures { at result ≡ origin };
-
     fn x(self) -> Coordinate
         ensures { value result ≡ (at self).x };
 
@@ -60,4 +56,11 @@ pub trait PointKind: Copy {
             Sign::Minus => Turn::Right,
         }
     }
+}
+
+// A kind whose origin can be had without a row: what a mesh answers past its end. Apart from the kind, so that a further kind need not have it.
+pub trait Origin: PointKind {
+    // The point with both coordinates 0.
+    fn origin() -> Self
+        ensures { Self.PointKind.at result ≡ origin };
 }

@@ -3,7 +3,7 @@
 
 ghost use Rattle.algebra.specs.Bounds.{Within};
 
-use coordinates::Coordinate;
+use coordinates::Packed;
 pub use coordinates::Step;
 
 pub mod kinds;
@@ -45,6 +45,6 @@ pub struct IntegerPoint {
 // A point whose coordinates have both parts.
 #[derive(Debug, Clone, Copy, PartialEq, Eq)]
 pub struct QuadraticPoint {
-    pub x: Coordinate,
-    pub y: Coordinate,
+    pub x: Packed,
+    pub y: Packed,
 }

@@ -4,10 +4,10 @@ ghost use Rattle.algebra.specs.Number.{number};
 ghost use Rattle.geometry.specs.Ranges.{Placed};
 ghost use Rattle.geometry.specs.Points.{integer_point, quadratic_point, integer_row, quadratic_row};
 
-use crate::kinds::PointKind;
+use crate::kinds::{Origin, PointKind};
 use crate::{IntegerPoint, IntegerRow, QuadraticPoint, QuadraticRow};
 use base::refusals::{Axis, Refusal};
-use coordinates::Coordinate;
+use coordinates::{Coordinate, Packed};
 
 // The largest coordinate, and the opposite of the smallest.
 const LIMIT: i32 = 10_000;
@@ -28,10 +28,6 @@ impl PointKind for IntegerPoint {
             return Err(Refusal::PointRange { axis: Axis::Y });
         }
         Ok(IntegerPoint { x: row.x, y: row.y })
-    }
-
-    fn origin() -> IntegerPoint {
-        IntegerPoint { x: 0, y: 0 }
     }
 
     fn x(self) -> Coordinate {
@@ -56,11 +52,23 @@ impl PointKind for IntegerPoint {
     }
 }
 
+impl Origin for IntegerPoint {
+    fn origin() -> IntegerPoint {
+        IntegerPoint { x: 0, y: 0 }
+    }
+}
+
 // The coordinate with these parts, or the refusal that names its axis.
-fn coordinate(p: i32, q: i32, axis: Axis) -> Result<Coordinate, Refusal>
+// Tested in the 32 bits in which a point keeps it: the check of a mesh does this for every corner that it looks at.
+fn coordinate(p: i32, q: i32, axis: Axis) -> Result<Packed, Refusal>
     ensures { Placed result (number p q) axis }
 {
-    Coordinate::new(p.into(), q.into()).ok_or(Refusal::PointRange { axis })
+    let range = -LIMIT..=LIMIT;
+    if range.contains(&p) && range.contains(&q) {
+        Ok(Packed { p, q })
+    } else {
+        Err(Refusal::PointRange { axis })
+    }
 }
 
 impl PointKind for QuadraticPoint {
@@ -76,21 +84,26 @@ impl PointKind for QuadraticPoint {
         Ok(QuadraticPoint { x, y })
     }
 
-    fn origin() -> QuadraticPoint {
-        let zero = Coordinate { p: 0, q: 0 };
-        QuadraticPoint { x: zero, y: zero }
-    }
-
     fn x(self) -> Coordinate {
-        self.x
+        self.x.into()
     }
 
     fn y(self) -> Coordinate {
-        self.y
+        self.y.into()
     }
 
     fn mirrored(self) -> QuadraticPoint {
-        let x = -self.x;
-        QuadraticPoint { x, ..self }
+        let x = -self.x();
+        QuadraticPoint {
+            x: x.into(),
+            ..self
+        }
+    }
+}
+
+impl Origin for QuadraticPoint {
+    fn origin() -> QuadraticPoint {
+        let zero = Packed { p: 0, q: 0 };
+        QuadraticPoint { x: zero, y: zero }
     }
 }

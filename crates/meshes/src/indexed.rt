@@ -7,7 +7,7 @@ ghost use Rattle.surfaces.proofs.ListedLawful.{vetted_lawful};
 use crate::Mesh;
 use crate::lists::{corners_at, twin_at};
 use base::ids::{HalfEdgeId, TriangleId, VertexId};
-use geometry::kinds::PointKind;
+use geometry::kinds::{Origin, PointKind};
 use mesh::lists::MeshLists;
 
 #[derive(Drop)]
@@ -35,7 +35,7 @@ impl<'a, P: PointKind> IndexedMesh<'a, P> {
     }
 }
 
-impl<'a, P: PointKind> Mesh for IndexedMesh<'a, P> {
+impl<'a, P: Origin> Mesh for IndexedMesh<'a, P> {
     type Point = P;
 
     ghost surface = { λ m. listed (meant P.written m.lists) };

@@ -9,7 +9,7 @@ use crate::Mesh;
 use base::ids::{HalfEdgeId, TriangleId, VertexId};
 use base::refusals::{Refusal, SheetParameter};
 use geometry::IntegerPoint;
-use geometry::kinds::PointKind;
+use geometry::kinds::Origin;
 
 // The largest number of columns, and of rows.
 const HOLES: u16 = 25;

@@ -1,5 +1,5 @@
 -- What becomes of a word as a letter is added, by its last letter: it is given up, or the letter is appended.
-use Rattle.std.proofs.Common.{◌≡◌, ℕ, zero, suc, ◌-◌, ◌<◌, Bool, true, false, cond, MatchBool, List, [], ◌∷◌, ◌++◌, length, take, Some, refl, ap, arith}
+use Rattle.std.proofs.Common.{◌≡◌, ℕ, zero, suc, ◌-◌, ◌<◌, Bool, true, false, cond, MatchBool, List, [], ◌∷◌, ◌++◌, length, take, Some, refl, sym, ap, ◌∙◌, subst, arith}
 use Rattle.std.specs.List.{slice_get}
 use Rattle.std.specs.Option.{option_eq}
 use Rattle.words.specs.Words.{added}
@@ -29,3 +29,11 @@ module _ {X : Type 0} (opposite : X → X) (equal : X → X → Bool) where
       ((0 < length w) × (added opposite equal w x ≡ take (length w - 1) w))
       (added opposite equal w x ≡ w ++ x ∷ [])
   last_tells w x = told w x (length w - 1) refl
+
+  -- where that letter is known, its test tells
+  pub last_read : (w : List X) (x y : X) (t : Bool) → slice_get w (length w - 1) ≡ Some y → t ≡ equal y (opposite x) → MatchBool t
+      ((0 < length w) × (added opposite equal w x ≡ take (length w - 1) w))
+      (added opposite equal w x ≡ w ++ x ∷ [])
+  last_read w x y t read test =
+      let same : option_eq equal (slice_get w (length w - 1)) (Some (opposite x)) ≡ t = ap (λ o. option_eq equal o (Some (opposite x))) read ∙ sym test in
+      subst (λ b. MatchBool b ((0 < length w) × (added opposite equal w x ≡ take (length w - 1) w)) (added opposite equal w x ≡ w ++ x ∷ [])) same (last_tells w x)

@@ -1,4 +1,4 @@
--- The two sorts of letters, with their opposites and what `==` says of two of them.
+-- The two sorts of letters, with their opposites and their tests for equal letters.
 --
 -- recrossed         the crossing back: the half-edge entered is left, and the half-edge left is entered
 -- same_crossing     whether two crossings leave the same half-edge and enter the same half-edge

@@ -1,12 +1,17 @@
 // What a sort of letters has to offer.
-ghost use Rattle.std.specs.Prelude.{◌≡◌};
+ghost use Rattle.std.specs.Prelude.{◌≡◌, Bool};
 ghost use Rattle.words.specs.Words.{Lawful};
 
-pub trait Letter: Eq + Sized {
+pub trait Letter: Sized {
     ghost opposed: { Self → Self };
+
+    ghost equal: { Self → Self → Bool };
 
     fn opposite(self) -> Self
         ensures { result ≡ opposed self };
 
-    ghost lawful: { Lawful opposed Self.eq };
+    fn same(self, other: Self) -> bool
+        ensures { result ≡ equal self other };
+
+    ghost lawful: { Lawful opposed equal };
 }

@@ -11,16 +11,19 @@ use base::refusals::Refusal;
 #[tactic(auto, using(crate::proofs::LastLetterTells::last_tells))]
 fn cancels<L: Letter + Copy>(word: &[L], letter: L) -> bool
     ensures { MatchBool result
-        ((0 < length word.now) × (added L.opposed L.eq word.now letter ≡ take (length word.now - 1) word.now))
-        (added L.opposed L.eq word.now letter ≡ word.now ++ letter ∷ []) }
+        ((0 < length word.now) × (added L.opposed L.equal word.now letter ≡ take (length word.now - 1) word.now))
+        (added L.opposed L.equal word.now letter ≡ word.now ++ letter ∷ []) }
 {
-    word.last().copied() == Some(letter.opposite())
+    match word.last() {
+        Some(last) => last.same(letter.opposite()),
+        None => false,
+    }
 }
 
 // One letter more, where a place is free behind the word.
 fn step<L: Letter + Copy>(word: &mut [L], len: usize, letter: L) -> usize
     requires { len < length word.old }
-    ensures { Stands (added L.opposed L.eq (take len word.old) letter) result word.old word.new }
+    ensures { Stands (added L.opposed L.equal (take len word.old) letter) result word.old word.new }
 {
     if cancels(&word[..len], letter) {
         len - 1
@@ -33,9 +36,9 @@ fn step<L: Letter + Copy>(word: &mut [L], len: usize, letter: L) -> usize
 // Adds a letter to the word in the first `len` places, and answers how many letters it has then.
 // A letter that cancels with the last needs no place of its own.
 pub fn add<L: Letter + Copy>(word: &mut [L], len: usize, letter: L) -> Result<usize, Refusal>
-    ensures verdict { refusal result ≡ add_refusal L.opposed L.eq word.old len letter }
+    ensures verdict { refusal result ≡ add_refusal L.opposed L.equal word.old len letter }
     ensures effect { MatchResult result
-        (λ n. Stands (added L.opposed L.eq (take len word.old) letter) n word.old word.new)
+        (λ n. Stands (added L.opposed L.equal (take len word.old) letter) n word.old word.new)
         (λ _. word.new ≡ word.old) }
 {
     if len < word.len() {
@@ -52,12 +55,12 @@ pub fn add<L: Letter + Copy>(word: &mut [L], len: usize, letter: L) -> Result<us
 // Reduces the word that the slice holds, and answers how many letters are left. They stand in the first places;
 // the places that were never needed on the way hold what they held.
 pub fn reduce<L: Letter + Copy>(word: &mut [L]) -> usize
-    ensures word { take result word.new ≡ reduction L.opposed L.eq word.old }
-    ensures long { result ≡ length (reduction L.opposed L.eq word.old) }
+    ensures word { take result word.new ≡ reduction L.opposed L.equal word.old }
+    ensures long { result ≡ length (reduction L.opposed L.equal word.old) }
     ensures within { result ≤ length word.old }
     ensures reduced { Reduced L.opposed (take result word.new) }
     ensures homotopic { Homotopic L.opposed word.old (take result word.new) }
-    ensures rest { drop (peak L.opposed L.eq [] word.old) word.new ≡ drop (peak L.opposed L.eq [] word.old) word.old }
+    ensures rest { drop (peak L.opposed L.equal [] word.old) word.new ≡ drop (peak L.opposed L.equal [] word.old) word.old }
 {
     let mut n = 0;
     // By index: the letters read and the letters written stand in the same slice.
@@ -70,5 +73,5 @@ pub fn reduce<L: Letter + Copy>(word: &mut [L]) -> usize
 
 // The laws of reduction, for every sort of letter.
 pub fn reductions_stand<L: Letter>()
-    ensures { Reductions L.opposed L.eq }
+    ensures { Reductions L.opposed L.equal }
 {}

@@ -1,6 +1,6 @@
 use Rattle.std.proofs.Common.{◌+◌, true}
 use Rattle.funnel.specs.Chains.{SameRoom, Turns}
-use Rattle.funnel.proofs.Chains.settle.Given as goal
+use Rattle.funnel.proofs.Working.settle.Given as goal
 
 abbrev pub invariant-loop-side : goal.invariant-loop-side
 invariant-loop-side g l =
@@ -8,4 +8,4 @@ invariant-loop-side g l =
     × SameRoom l.initial.self l.self
 
 abbrev pub decreases-loop-side : goal.decreases-loop-side
-decreases-loop-side g l = l.self.near + l.self.far
+decreases-loop-side g l = l.self.chains.near + l.self.chains.far

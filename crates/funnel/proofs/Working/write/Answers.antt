@@ -1,7 +1,7 @@
 use Rattle.std.proofs.Common.{sym, ◌∙◌}
 use Rattle.std.proofs.lemmas.List.{set-get_or}
 use Rattle.funnel.proofs.WrittenBends.{one_written, none_left}
-use Rattle.funnel.proofs.Chains.write.Goals as goal
+use Rattle.funnel.proofs.Working.write.Goals as goal
 
 pub loop-k-preserved : goal.loop-k-preserved
 loop-k-preserved g c = λ fits. one_written _ _ _ _ (c.loop-k.invariant fits) _ (sym c.in-Some.is ∙ c.bend.ensures fits) c.loop-k-test.true

@@ -1,6 +1,6 @@
 use Rattle.std.proofs.Common.{◌<◌, length, arith}
 use Rattle.funnel.proofs.OpenedChains.{alone}
-use Rattle.funnel.proofs.Chains.at_end.Goals as goal
+use Rattle.funnel.proofs.Working.at_end.Goals as goal
 
 pub returns-clause-begins : goal.returns-clause-begins
 returns-clause-begins g c some =

@@ -3,7 +3,7 @@ use Rattle.algebra.specs.Number.{quadratics, sign}
 use Rattle.taut.specs.Funnel.{bears}
 use Rattle.funnel.proofs.FromTheRight.{taken}
 use Rattle.funnel.proofs.SettledChains.{near_stays, near_drops}
-use Rattle.funnel.proofs.Chains.drop_near.Goals as goal
+use Rattle.funnel.proofs.Working.drop_near.Goals as goal
 
 pub returns-then-stays-clause-turns : goal.returns-then-stays-clause-turns
 returns-then-stays-clause-turns g c e n f le h =

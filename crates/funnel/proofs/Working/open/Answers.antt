@@ -1,6 +1,6 @@
 use Rattle.std.proofs.Common.{arith}
 use Rattle.taut.specs.declared.Side.TheVariants.{Left, Right}
-use Rattle.funnel.proofs.Chains.open.Goals as goal
+use Rattle.funnel.proofs.Working.open.Goals as goal
 
 pub returns-clause-opens : goal.returns-clause-opens
 returns-clause-opens g c room =

@@ -1,6 +1,6 @@
 use Rattle.std.proofs.Common.{◌≤◌, true, false, length, ◌∙◌, arith}
 use Rattle.funnel.proofs.SettledChains.{turned_on, left_over}
-use Rattle.funnel.proofs.Chains.settle.Goals as goal
+use Rattle.funnel.proofs.Working.settle.Goals as goal
 
 pub loop-side-preserved : goal.loop-side-preserved
 loop-side-preserved g c =

@@ -1,5 +1,5 @@
 use Rattle.funnel.proofs.GainedEnds.{gained_left, gained_right}
-use Rattle.funnel.proofs.Chains.gain.Goals as goal
+use Rattle.funnel.proofs.Working.gain.Goals as goal
 
 pub returns-in-Left-clause-gains : goal.returns-in-Left-clause-gains
 returns-in-Left-clause-gains g c = gained_left g.P.PointKind.at c.args.side c.in-Left.is c.args.corner c.args.self.now c.gain_near.new.self c.gain_near.ensures.nears

@@ -4,7 +4,7 @@ use Rattle.taut.specs.Funnel.{bears}
 use Rattle.taut.specs.Sleeve.{other}
 use Rattle.funnel.proofs.FromTheRight.{taken}
 use Rattle.funnel.proofs.SettledChains.{apex_stays, apex_moves}
-use Rattle.funnel.proofs.Chains.move_apex.Goals as goal
+use Rattle.funnel.proofs.Working.move_apex.Goals as goal
 
 pub returns-then-not-blocks-clause-turns : goal.returns-then-not-blocks-clause-turns
 returns-then-not-blocks-clause-turns g c e n f le h =
