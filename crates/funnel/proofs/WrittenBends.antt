@@ -1,4 +1,4 @@
--- The bends that a funnel leaves, one by one: what stands at each place of the string, and what stands in the output when the first k are written.
+-- The bends that a funnel leaves, written one by one: what stands in the output when the first k are written.
 use Rattle.std.proofs.Common.{◌≡◌, ℕ, zero, suc, ◌+◌, ◌<◌, ◌≤◌, List, [], ◌∷◌, ◌++◌, length, take, drop, set, Some, None, sym, ap, ◌∙◌, subst, add-one, arith}
 use lib.Seq.{take-append_seam}
 use Rattle.std.proofs.lemmas.List.{take_all}
